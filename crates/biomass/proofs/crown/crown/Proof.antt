@@ -1,0 +1,40 @@
+-- `biomass::crown::crown` meets its contract: each test of the code is the definition's.
+use borrow.Author.Needs.{needs}
+use Rattle.biomass.specs.Crown.{crown}
+use Rattle.biomass.specs.Law.Report.{checks, in-range}
+use Rattle.biomass.proofs.crown.crown.Statement.{statement}
+use Rattle.biomass.proofs.crown.crown.Tie as tie
+
+within-requires : tie.Need-within-requires
+within-requires c κs = search needs
+
+returns : tie.Need-returns
+unfolding crown
+returns c = search checks
+
+within-requires-2 : tie.Need-within-requires-2
+within-requires-2 c κs = search needs
+
+returns-2 : tie.Need-returns-2
+unfolding crown
+returns-2 c = search checks
+
+crown-in-range-requires : tie.Need-crown-in-range-requires
+crown-in-range-requires c κs =
+    let first = c .before .before in
+    (in-range (first .before .within .ensures) (first .if1 .left), in-range (c .before .within2 .ensures) (c .if2 .left))
+
+returns-3 : tie.Need-returns-3
+unfolding crown
+returns-3 c = search checks
+
+pub crown-spec : {M : Type 1} → statement M
+crown-spec =
+    tie.close
+    (tie.spec
+    within-requires
+    returns
+    within-requires-2
+    returns-2
+    crown-in-range-requires
+    returns-3)

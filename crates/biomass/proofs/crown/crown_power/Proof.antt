@@ -1,0 +1,26 @@
+-- `biomass::crown::crown_power` meets its contract: antt computes the test of Law.Scaled at each of the table's 431 entries.
+use mathlib.Core.Path.{refl}
+use Prim.Native.Nat.{_≤_}
+use borrow.Author.Needs.{needs}
+use Rattle.biomass.specs.Law.Scaled.{near, tested}
+use Rattle.biomass.proofs.Power.{holds-w, read-is-w}
+use Rattle.biomass.proofs.crown.crown_power.Statement.{statement}
+use Rattle.biomass.proofs.crown.crown_power.Tie as tie
+
+sub-at : tie.Need-sub-at
+sub-at c = search needs
+
+mul-result : tie.Need-mul-result
+mul-result c = search needs
+
+array-read-result : tie.Need-array-read-result
+array-read-result c = search needs
+
+returns : tie.Need-returns
+returns c =
+    let low : 70 ≤ c .args .d = c .pre .0 in
+    let high : c .args .d ≤ 500 = c .pre .1 in
+    rw read-is-w (unfold holds-w tested near in refl)
+
+pub crown-power-spec : {M : Type 1} → statement M
+crown-power-spec = tie.close (tie.spec sub-at mul-result array-read-result returns)

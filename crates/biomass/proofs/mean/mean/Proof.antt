@@ -1,0 +1,49 @@
+-- `biomass::mean::mean` meets its contract: each test of the code is the definition's, and past the first n is at most a million.
+use borrow.Author.Needs.{needs}
+use native.Mathlib.Omega.{arith}
+use Rattle.biomass.specs.Mean.{mean}
+use Rattle.biomass.specs.Law.Report.{checks, in-range}
+use Rattle.biomass.proofs.mean.mean.Statement.{statement}
+use Rattle.biomass.proofs.mean.mean.Tie as tie
+
+within-requires : tie.Need-within-requires
+within-requires c κs = search needs
+
+returns : tie.Need-returns
+unfolding mean
+returns c = search checks
+
+mul-within : tie.Need-mul-within
+mul-within c = omega (arith, in-range {lo = 1} {x = c .before .before .args .n} {hi = 1000000} (c .before .within .ensures) (c .if1 .left))
+
+mul-within-2 : tie.Need-mul-within-2
+mul-within-2 c = omega (arith, in-range {lo = 1} {x = c .before .before .args .n} {hi = 1000000} (c .before .within .ensures) (c .if1 .left))
+
+within-requires-2 : tie.Need-within-requires-2
+within-requires-2 c κs = search needs
+
+returns-2 : tie.Need-returns-2
+unfolding mean
+returns-2 c = search checks
+
+mean-of-requires : tie.Need-mean-of-requires
+mean-of-requires c κs =
+    let first = c .before .before in
+    (in-range (first .before .within .ensures) (first .if1 .left), in-range (c .before .within2 .ensures) (c .if2 .left))
+
+returns-3 : tie.Need-returns-3
+unfolding mean
+returns-3 c = search checks
+
+pub mean-spec : {M : Type 1} → statement M
+mean-spec =
+    tie.close
+    (tie.spec
+    within-requires
+    returns
+    mul-within
+    mul-within-2
+    within-requires-2
+    returns-2
+    mean-of-requires
+    returns-3)

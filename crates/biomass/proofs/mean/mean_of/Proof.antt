@@ -1,0 +1,102 @@
+-- `biomass::mean::mean_of` meets its contract: step 2's first inequality holds at `low` and no more at `above`, which start at 70 and 1001. The distance falls,
+-- and where it is 1, `low` is the mean (`mean-between`).
+-- Assumes nothing.
+use Prim.Native.Nat.{ℕ, _+_, _-_, _*_, _^_, _≤_, _<_}
+use native.Mathlib.Omega.{arith}
+use native.Mathlib.Nat.{mul-le-mul, lt-of-le-of-lt}
+use mathlib.Core.Path.{_≡_, sym}
+use lib.Dec.{lit<}
+use Rattle.biomass.specs.Whole.{square}
+use Rattle.biomass.specs.Law.Mean.{mean-between, at-least-70, at-most-1000}
+use Rattle.biomass.proofs.mean.mean_of.Statement.{statement}
+use Rattle.biomass.proofs.mean.mean_of.Tie as tie
+
+abbrev Inv-loop : tie.InvT-loop
+Inv-loop n squares low₀ above₀ low above =
+    (70 ≤ low) × (low < above) × (above ≤ 1001) × (square (2 * low - 1) * n ≤ 400 * squares) × (400 * squares < square (2 * above - 1) * n)
+
+abbrev μ-loop : tie.MeasureT-loop
+μ-loop n squares low₀ above₀ low above = above - low
+
+-- a side of at most 2001, squared, times a million trees
+square-fits : {x : ℕ} → x ≤ 2001 → x * x < 2 ^ 64
+square-fits h = lt-of-le-of-lt (mul-le-mul h h) (lit< tt)
+
+product-fits : {x n : ℕ} → x ≤ 2001 → n ≤ 1000000 → x * x * n < 2 ^ 64
+product-fits h k = lt-of-le-of-lt (mul-le-mul (mul-le-mul h h) k) (lit< tt)
+
+loop-holds : tie.Need-loop-holds Inv-loop μ-loop
+loop-holds c = (
+  omega arith,
+  omega arith,
+  omega arith,
+  at-least-70 (c .args .n) (c .args .squares) (c .pre .1 .least),
+  at-most-1000 (c .args .n) (c .args .squares) (c .pre .0 .least) (c .pre .1 .most),
+)
+
+sub-loop : tie.Need-sub-loop Inv-loop μ-loop
+sub-loop c = omega arith
+
+sub-middle : tie.Need-sub-middle Inv-loop μ-loop
+sub-middle c = omega arith
+
+add-middle : tie.Need-add-middle Inv-loop μ-loop
+add-middle c = omega arith
+
+mul-side : tie.Need-mul-side Inv-loop μ-loop
+mul-side c = omega arith
+
+sub-side : tie.Need-sub-side Inv-loop μ-loop
+sub-side c = omega arith
+
+mul-if1 : tie.Need-mul-if1 Inv-loop μ-loop
+mul-if1 c = record { fits = square-fits (omega arith) }
+
+mul-if1-2 : tie.Need-mul-if1-2 Inv-loop μ-loop
+mul-if1-2 c = record { fits = product-fits (omega arith) (c .before .before .pre .0 .most) }
+
+mul-if1-3 : tie.Need-mul-if1-3 Inv-loop μ-loop
+mul-if1-3 c = omega arith
+
+loop-less : tie.Need-loop-less Inv-loop μ-loop
+loop-less c = omega arith
+
+loop-again : tie.Need-loop-again Inv-loop μ-loop
+loop-again c = omega arith
+
+loop-less-2 : tie.Need-loop-less-2 Inv-loop μ-loop
+loop-less-2 c = omega arith
+
+loop-again-2 : tie.Need-loop-again-2 Inv-loop μ-loop
+loop-again-2 c = omega arith
+
+-- the next diameter after `low` is `above`
+next : (n S low above : ℕ) → above ≡ low + 1 → 400 * S < square (2 * above - 1) * n → 400 * S < square (2 * (low + 1) - 1) * n
+next n S low above e h = rw e at h
+
+returns : tie.Need-returns Inv-loop μ-loop
+returns c =
+    let a = c .before .before .args in
+    let at = c .before .loop in
+    sym (mean-between (a .n) (a .squares) (at .low) (omega arith) (at .inv .3) (next (a .n) (a .squares) (at .low) (at .above) (omega arith) (at .inv .4)))
+
+pub mean-of-spec : {M : Type 1} → statement M
+mean-of-spec =
+    tie.close
+    (tie.spec
+    Inv-loop
+    μ-loop
+    loop-holds
+    sub-loop
+    sub-middle
+    add-middle
+    mul-side
+    sub-side
+    mul-if1
+    mul-if1-2
+    mul-if1-3
+    loop-less
+    loop-again
+    loop-less-2
+    loop-again-2
+    returns)

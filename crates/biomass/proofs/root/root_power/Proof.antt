@@ -1,0 +1,65 @@
+-- `biomass::root::root_power` meets its contract: the fifth power of at most 300, times 10^5, is within 64 bits, and its square root is y.
+use borrow.Author.Needs.{needs}
+use Prim.Native.Nat.{ℕ, _*_, _^_, _≤_, _<_}
+use native.Mathlib.Nat.{mul-le-mul, mul-le-mul-left, pow-suc, lt-of-le-of-lt}
+use mathlib.Core.Path.{_≡_, _∙_, sym, ap}
+use lib.Dec.{T, ltb, ltb→lt}
+use Rattle.biomass.specs.Whole.{root}
+use Rattle.biomass.specs.Root.{y}
+use Rattle.biomass.specs.Law.Whole.{pow-two}
+use Rattle.biomass.proofs.root.root_power.Statement.{statement}
+use Rattle.biomass.proofs.root.root_power.Tie as tie
+
+module _ {d : ℕ} (h : d ≤ 300) where
+  two : d * d ≤ 300 * 300
+  two = mul-le-mul h h
+
+  three : d * d * d ≤ 300 * 300 * 300
+  three = mul-le-mul two h
+
+  four : d * d * d * d ≤ 300 * 300 * 300 * 300
+  four = mul-le-mul three h
+
+  five : d * d * d * d * d ≤ 300 * 300 * 300 * 300 * 300
+  five = mul-le-mul four h
+
+fits : {x most : ℕ} → x ≤ most → T (ltb most (2 ^ 64)) → x < 2 ^ 64
+fits {most} h t = lt-of-le-of-lt h (ltb→lt most (2 ^ 64) t)
+
+fifth : (d : ℕ) → d * d * d * d * d ≡ d ^ 5
+fifth d =
+    sym (pow-suc d 4 ∙ ap (λ (x : ℕ). x * d) (pow-suc d 3 ∙ ap (λ (x : ℕ). x * d) (pow-suc d 2 ∙ ap (λ (x : ℕ). x * d) (pow-two d))))
+
+mul-square-root : tie.Need-mul-square-root
+mul-square-root c = record { fits = fits (two (c .pre)) tt }
+
+mul-square-root-2 : tie.Need-mul-square-root-2
+mul-square-root-2 c = record { fits = fits (three (c .pre)) tt }
+
+mul-square-root-3 : tie.Need-mul-square-root-3
+mul-square-root-3 c = record { fits = fits (four (c .pre)) tt }
+
+mul-square-root-4 : tie.Need-mul-square-root-4
+mul-square-root-4 c = record { fits = fits (five (c .pre)) tt }
+
+mul-square-root-5 : tie.Need-mul-square-root-5
+mul-square-root-5 c = record { fits = fits (mul-le-mul-left 100000 (five (c .pre))) tt }
+
+square-root-requires : tie.Need-square-root-requires
+square-root-requires c κs = search needs
+
+returns : tie.Need-returns
+unfolding y
+returns c = c .square-root .ensures ∙ ap (λ (x : ℕ). root 2 (100000 * x)) (fifth (c .before .args .d))
+
+pub root-power-spec : {M : Type 1} → statement M
+root-power-spec =
+    tie.close
+    (tie.spec
+    mul-square-root
+    mul-square-root-2
+    mul-square-root-3
+    mul-square-root-4
+    mul-square-root-5
+    square-root-requires
+    returns)

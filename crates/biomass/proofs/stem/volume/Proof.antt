@@ -1,0 +1,97 @@
+-- `stem::volume` meets its contract. The laws of `specs.Law.Stem` give its two ends at either side of 118288000, and bound what is added to
+-- the base and taken from it, so that nothing overflows and nothing goes below 0. Assumes nothing.
+use native.Mathlib.Nat.{mul-le-mul}
+use native.Mathlib.Omega.{arith}
+use borrow.Author.Needs.{needs}
+use Rattle.biomass.specs.Law.Stem.{rise-fits, greater-fall-fits, lesser-fall-fits, volumes-over, volumes-under}
+use Rattle.biomass.proofs.stem.volume.Statement.{statement}
+use Rattle.biomass.proofs.stem.volume.Tie as tie
+
+mul-area : tie.Need-mul-area
+mul-area c = omega (arith, mul-le-mul (c .pre .3) (c .pre .3))
+
+mul-area-2 : tie.Need-mul-area-2
+mul-area-2 c = omega (arith, mul-le-mul (c .pre .3) (c .pre .3))
+
+mul-slope : tie.Need-mul-slope
+mul-slope c = search needs
+
+sub-slope : tie.Need-sub-slope
+sub-slope c = search needs
+
+mul-slope-2 : tie.Need-mul-slope-2
+mul-slope-2 c = search needs
+
+mul-base : tie.Need-mul-base
+mul-base c = search needs
+
+mul-t12 : tie.Need-mul-t12
+mul-t12 c = omega (arith, rise-fits _ _ (c .before .pre))
+
+add-t13 : tie.Need-add-t13
+add-t13 c = omega (arith, rise-fits _ _ (c .before .pre))
+
+add-t14 : tie.Need-add-t14
+add-t14 c = search needs
+
+add-t15 : tie.Need-add-t15
+add-t15 c = omega (arith, rise-fits _ _ (c .before .pre))
+
+mul-t16 : tie.Need-mul-t16
+mul-t16 c = omega (arith, rise-fits _ _ (c .before .pre))
+
+add-t17 : tie.Need-add-t17
+add-t17 c = omega (arith, rise-fits _ _ (c .before .pre))
+
+returns : tie.Need-returns
+returns c = volumes-over _ _ (c .before .pre) (c .if1 .taken)
+
+sub-under : tie.Need-sub-under
+sub-under c = search needs
+
+add-t8 : tie.Need-add-t8
+add-t8 c = search needs
+
+mul-t9 : tie.Need-mul-t9
+mul-t9 c = omega (arith, greater-fall-fits _ _ (c .before .pre))
+
+sub-t10 : tie.Need-sub-t10
+sub-t10 c = omega (arith, greater-fall-fits _ _ (c .before .pre))
+
+sub-t18 : tie.Need-sub-t18
+sub-t18 c = search needs
+
+mul-t19 : tie.Need-mul-t19
+mul-t19 c = omega (arith, lesser-fall-fits _ _ (c .before .pre))
+
+sub-t20 : tie.Need-sub-t20
+sub-t20 c = omega (arith, lesser-fall-fits _ _ (c .before .pre))
+
+returns-2 : tie.Need-returns-2
+returns-2 c = volumes-under _ _ (c .before .pre) (c .if1 .left)
+
+pub volume-spec : {M : Type 1} → statement M
+volume-spec =
+    tie.close
+    (tie.spec
+    mul-area
+    mul-area-2
+    mul-slope
+    sub-slope
+    mul-slope-2
+    mul-base
+    mul-t12
+    add-t13
+    add-t14
+    add-t15
+    mul-t16
+    add-t17
+    returns
+    sub-under
+    add-t8
+    mul-t9
+    sub-t10
+    sub-t18
+    mul-t19
+    sub-t20
+    returns-2)

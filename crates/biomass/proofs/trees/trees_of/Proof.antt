@@ -1,0 +1,32 @@
+-- `biomass::trees::trees_of` meets its contract: n is at most a million and p a hundred million, so 200 * n * p + q stays within 64 bits.
+use borrow.Author.Needs.{needs}
+use Prim.Native.Nat.{_*_, _≤_}
+use native.Mathlib.Omega.{arith}
+use native.Mathlib.Nat.{mul-le-mul}
+use Rattle.biomass.proofs.trees.trees_of.Statement.{statement}
+use Rattle.biomass.proofs.trees.trees_of.Tie as tie
+
+product : (c : tie.Start) → c .args .n * c .args .p ≤ 1000000 * 100000000
+product c = mul-le-mul (c .pre .0 .most) (c .pre .1 .most)
+
+mul-result : tie.Need-mul-result
+mul-result c = search needs
+
+mul-result-2 : tie.Need-mul-result-2
+mul-result-2 c = omega (arith, product c)
+
+add-result : tie.Need-add-result
+add-result c = omega (arith, product c)
+
+mul-result-3 : tie.Need-mul-result-3
+mul-result-3 c = search needs
+
+div-result : tie.Need-div-result
+div-result c = search needs
+
+returns : tie.Need-returns
+returns c = search needs
+
+pub trees-of-spec : {M : Type 1} → statement M
+trees-of-spec =
+    tie.close (tie.spec mul-result mul-result-2 add-result mul-result-3 div-result returns)

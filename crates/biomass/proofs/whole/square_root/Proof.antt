@@ -1,0 +1,71 @@
+-- `biomass::whole::square_root` meets its contract: the invariant is that the root lies from `low` on and before `above`, which start at 0 and 2^32.
+-- The distance falls, and where it is 1, `low` is the root (`square-root-is`).
+use Prim.Native.Nat.{ℕ, _+_, _-_, _*_, _^_, _≤_, _<_}
+use native.Mathlib.Omega.{arith}
+use native.Mathlib.Nat.{mul-le-mul}
+use mathlib.Core.Path.{_≡_, sym}
+use Rattle.biomass.specs.Law.Whole.{square-root-is}
+use Rattle.biomass.proofs.whole.square_root.Statement.{statement}
+use Rattle.biomass.proofs.whole.square_root.Tie as tie
+
+abbrev Inv-loop : tie.InvT-loop
+Inv-loop x low₀ above₀ low above = (low < above) × (above ≤ 2 ^ 32) × (low * low ≤ x) × (x < above * above)
+
+abbrev μ-loop : tie.MeasureT-loop
+μ-loop x low₀ above₀ low above = above - low
+
+loop-holds : tie.Need-loop-holds Inv-loop μ-loop
+loop-holds c = omega arith
+
+sub-loop : tie.Need-sub-loop Inv-loop μ-loop
+sub-loop c = omega arith
+
+sub-middle : tie.Need-sub-middle Inv-loop μ-loop
+sub-middle c = omega arith
+
+add-middle : tie.Need-add-middle Inv-loop μ-loop
+add-middle c = omega arith
+
+square-fits : (m : ℕ) → m < 2 ^ 32 → m * m < 2 ^ 64
+square-fits m h = let bound : m * m ≤ 0xffff_ffff * 0xffff_ffff = mul-le-mul {n₂ = 0xffff_ffff} {m₂ = 0xffff_ffff} (omega arith) (omega arith) in omega arith
+
+mul-if1 : tie.Need-mul-if1 Inv-loop μ-loop
+mul-if1 c = record { fits = square-fits _ (omega arith) }
+
+loop-less : tie.Need-loop-less Inv-loop μ-loop
+loop-less c = omega arith
+
+loop-again : tie.Need-loop-again Inv-loop μ-loop
+loop-again c = omega arith
+
+loop-less-2 : tie.Need-loop-less-2 Inv-loop μ-loop
+loop-less-2 c = omega arith
+
+loop-again-2 : tie.Need-loop-again-2 Inv-loop μ-loop
+loop-again-2 c = omega arith
+
+-- the next number after `low` is `above`
+below : (x low above : ℕ) → above ≡ low + 1 → x < above * above → x < (low + 1) * (low + 1)
+below x low above e h = rw e at h
+
+returns : tie.Need-returns Inv-loop μ-loop
+returns c =
+    let at = c .before .loop in
+    sym (square-root-is (c .before .before .args .x) (at .low) (at .inv .2) (below _ (at .low) (at .above) (omega arith) (at .inv .3)))
+
+pub square-root-spec : {M : Type 1} → statement M
+square-root-spec =
+    tie.close
+    (tie.spec
+    Inv-loop
+    μ-loop
+    loop-holds
+    sub-loop
+    sub-middle
+    add-middle
+    mul-if1
+    loop-less
+    loop-again
+    loop-less-2
+    loop-again-2
+    returns)

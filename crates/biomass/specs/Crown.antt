@@ -1,0 +1,50 @@
+-- Step 5, the crown.
+use Prim.Native.Nat.{ℕ, _*_, _^_}
+use mathlib.Core.Bool.{cond}
+use mathlib.Core.List.{List, [], _∷_}
+use lib.Dec.{leb}
+use lib.ListN.{getD}
+use lib.IntN.{ℤ, pos, negℤ}
+use Rattle.biomass.specs.Whole.{inside, root}
+use Rattle.biomass.specs.Report.{Report, gives, unless}
+use Rattle.biomass.specs.Ends.{Ends, range, curve, straight}
+use Rattle.biomass.specs.declared.units.BiomassRange.{BiomassRange}
+
+-- "Crown groups 0 to 7, each a row of k, a and b, in Table 5.2.3's order (larches first, oak last). k is Table 5.2.2 in 10^-10 t; a and b
+-- are Table 5.2.3 in mg."
+abbrev pub crownTable : List (List ℤ)
+crownTable =
+    (pos 438717 ∷ negℤ (pos 129046967) ∷ pos 5039011 ∷ []) ∷
+    (pos 122645 ∷ negℤ (pos 299529453) ∷ pos 9948982 ∷ []) ∷
+    (pos 176287 ∷ negℤ (pos 430536496) ∷ pos 14300429 ∷ []) ∷
+    (pos 161411 ∷ negℤ (pos 394205622) ∷ pos 13093685 ∷ []) ∷
+    (pos 144620 ∷ negℤ (pos 353197843) ∷ pos 11731597 ∷ []) ∷
+    (pos 168602 ∷ negℤ (pos 411767824) ∷ pos 13677021 ∷ []) ∷
+    (pos 188154 ∷ negℤ (pos 459518648) ∷ pos 15263082 ∷ []) ∷
+    (pos 168513 ∷ negℤ (pos 411550464) ∷ pos 13669801 ∷ []) ∷ []
+
+abbrev pub crownRow : ℕ → List ℤ
+crownRow g = getD crownTable g []
+
+abbrev pub k : ℕ → ℤ
+k g = getD (crownRow g) 0 (pos 0)
+
+abbrev pub a : ℕ → ℤ
+a g = getD (crownRow g) 1 (pos 0)
+
+abbrev pub b : ℕ → ℤ
+b g = getD (crownRow g) 2 (pos 0)
+
+-- "w is the greatest whole number with w^10000 ≤ 10^25233·d^24767"
+unfoldable pub w : ℕ → ℕ
+w d = root 10000 (10 ^ 25233 * d ^ 24767)
+
+-- "For d ≤ 500, .. low = k·w div 10^6, high = k·(w+1) div 10^6 + 1. .. For d > 500, low = (10a + b·d) div 10, high = low + 1."
+unfoldable pub crownEnds : ℕ → ℕ → Ends
+crownEnds g d = cond (leb d 500) (curve (k g) (w d) (10 ^ 6)) (straight (a g) (b g) d)
+
+unfoldable pub crown : ℕ → ℕ → Report BiomassRange
+crown g d =
+    unless (inside 0 g 7) 6
+    (unless (inside 70 d 1000) 6
+    (gives (range (crownEnds g d))))

@@ -1,0 +1,27 @@
+-- A part's low and high. Steps 4 to 6 subtract on the way, so they are worked in ℤ; Law shows of each part that both ends come out at 0
+-- or above, so that `range`, which the code hands back, has the same numbers.
+use Prim.Native.Nat.{ℕ, _+_, _^_}
+use lib.IntN.{ℤ, pos, _+ℤ_, _*ℤ_, natAbs}
+use Rattle.biomass.specs.Whole.{_div_}
+use Rattle.biomass.specs.declared.units.Milligrams.{Milligrams}
+use Rattle.biomass.specs.declared.units.BiomassRange.{BiomassRange}
+
+pub record Ends : Type 0 where
+  pub low : ℤ
+  pub high : ℤ
+
+abbrev pub between : ℕ → ℕ → BiomassRange
+between l h = record { low = record { 0 = l }; high = record { 0 = h } }
+
+abbrev pub range : Ends → BiomassRange
+range e = between (natAbs (e .low)) (natAbs (e .high))
+
+-- A coefficient times a power of the diameter, of which p whole units, m to the mg, are known: "low = k·w div 10^6, high = k·(w+1) div 10^6 + 1"
+abbrev pub curve : ℤ → ℕ → ℕ → Ends
+curve k p m = record { low = (k *ℤ pos p) div m; high = (k *ℤ pos (p + 1)) div m +ℤ pos 1 }
+
+-- A straight line: "low = (10a + b·d) div 10, high = low + 1"
+abbrev pub straight : ℤ → ℤ → ℕ → Ends
+straight a b d =
+    let low = (pos 10 *ℤ a +ℤ b *ℤ pos d) div 10 in
+    record { low = low; high = low +ℤ pos 1 }

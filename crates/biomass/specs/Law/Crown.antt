@@ -1,0 +1,29 @@
+-- Laws of the crown: facts of its table, and its ends' bounds.
+use Prim.Native.Nat.{ℕ, zero, suc, _≤_, _<_, _^_}
+use native.Mathlib.Omega.{arith}
+use lib.Dec.{lit≤, lit<}
+use Rattle.biomass.specs.Crown.{k, a, b, w, crownEnds}
+use Rattle.biomass.specs.Law.Power.{w-most}
+use Rattle.biomass.specs.Law.Ends.{Bounded, Rising, Coefficient, Group, group, line-rising, part-bounded}
+
+-- the table's greatest k is 438717; each line is above 0 past 500; the highest ends at 1066789552 mg
+crown-group : (g : ℕ) → g ≤ 7 → Group (k g) (a g) (b g) 438717 500 1066789552
+crown-group zero h = group tt tt tt tt tt
+crown-group (suc zero) h = group tt tt tt tt tt
+crown-group (suc (suc zero)) h = group tt tt tt tt tt
+crown-group (suc (suc (suc zero))) h = group tt tt tt tt tt
+crown-group (suc (suc (suc (suc zero)))) h = group tt tt tt tt tt
+crown-group (suc (suc (suc (suc (suc zero))))) h = group tt tt tt tt tt
+crown-group (suc (suc (suc (suc (suc (suc zero)))))) h = group tt tt tt tt tt
+crown-group (suc (suc (suc (suc (suc (suc (suc zero))))))) h = group tt tt tt tt tt
+crown-group (suc (suc (suc (suc (suc (suc (suc (suc g)))))))) h = absurd (omega arith)
+
+pub crown-k : (g : ℕ) → g ≤ 7 → Coefficient (k g) 438717
+crown-k g h = crown-group g h .coefficient
+
+pub crown-rising : (g d : ℕ) → g ≤ 7 → 500 < d → d ≤ 1000 → Rising (a g) (b g) d
+crown-rising g d h after d-small = line-rising (crown-group g h .line) d after d-small
+
+pub crown-bounded : (g d : ℕ) → g ≤ 7 → d ≤ 1000 → Bounded (crownEnds g d) 2 1066789553
+unfolding crownEnds
+crown-bounded g d h d-small = part-bounded (crown-group g h) d (w d) 1613760235 (10 ^ 6) d-small (w-most d) (lit< tt) (lit≤ tt) (lit< tt)

@@ -1,0 +1,147 @@
+-- The exact value of the crown, the root, a tree and a row lies between the ends that steps 5 to 7 give: "Not under the low" whatever
+-- fractions not below the powers are given, "Not over the high" whatever fractions not above them. Each div goes down and each high adds 1,
+-- so a low is not above and a high not below the exact division (Law.Fraction); sums and products keep that. Law.StemExact has the stem.
+use Prim.Native.Nat.{ℕ, zero, suc, _+_, _*_, _^_, _≤_, _<_}
+use native.Mathlib.Nat.{mul-le-mul-left}
+use native.Mathlib.Omega.{arith}
+use mathlib.Core.Bool.{cond}
+use mathlib.Core.Path.{_≡_, sym, ap, _∙_, subst}
+use lib.Dec.{leb, lit<, eqb·suc-zero}
+use lib.IntN.{ℤ, pos, natAbs, _+ℤ_, _*ℤ_}
+use Rattle.biomass.specs.Whole.{_div_}
+use Rattle.biomass.specs.Fraction.{Fraction, whole, _⊕_, _⊗_, _over_, _≼_}
+use Rattle.biomass.specs.Ends.{Ends, curve, straight}
+use Rattle.biomass.specs.Crown as Crown
+use Rattle.biomass.specs.Crown.{crownEnds}
+use Rattle.biomass.specs.Root as Root
+use Rattle.biomass.specs.Root.{rootEnds}
+use Rattle.biomass.specs.Report.{gives}
+use Rattle.biomass.specs.Tree.{tree, row, rowOf}
+use Rattle.biomass.specs.Exact.{Given, value, NotBelowCrown, NotAboveCrown, NotBelowRoot, NotAboveRoot, exactLine, exactCrown, exactRoot, exactTree, exactRow, NotBelow, NotAbove}
+use Rattle.biomass.specs.Law.Signed.{pos-le}
+use Rattle.biomass.specs.Law.Fraction.{≼-trans, ⊕-mono, whole-⊕, floor, ceiling, share-not-under, share-not-over, no-share}
+use Rattle.biomass.specs.Law.Ends.{Bounded, Coefficient, either-side}
+use Rattle.biomass.specs.Law.Power.{crown-power-not-under, crown-power-not-over, root-power-not-under, root-power-not-over}
+use Rattle.biomass.specs.Law.Crown.{crown-k}
+use Rattle.biomass.specs.Law.Root.{root-b}
+use Rattle.biomass.specs.Law.StemExact.{stem-not-under, stem-not-over}
+use Rattle.biomass.specs.Law.Tree.{tree-gives, parts-bounded, row-gives}
+use Rattle.biomass.specs.declared.units.BiomassRange.{BiomassRange}
+use Rattle.biomass.specs.declared.tree.AverageTree.{AverageTree}
+
+-- ---- the crown and the root
+
+-- Up to a limit they are a curve, above it a straight line. The curve is a coefficient k, in q-ths of a mg, times a power of the diameter; p is
+-- its whole hundred-thousandths, w or y. So the power times k / q, and k·p over 10^5·q, are compared by p·t and 10^5·r (Law.Power).
+module _ (k start rise : ℤ) {most : ℕ} (c : Coefficient k most) (q : ℕ) (some : 0 < q) (power : Given) (d limit p : ℕ) where
+  part-not-under : (d ≤ limit → p * power .t ≤ 10 ^ 5 * power .r)
+      → whole ((cond (leb d limit) (curve k p (10 ^ 5 * q)) (straight start rise d)) .low)
+      ≼ cond (leb d limit) (whole k over q ⊗ value power) (exactLine start rise d)
+  part-not-under not-below =
+      either-side
+      (λ t. whole ((cond t (curve k p (10 ^ 5 * q)) (straight start rise d)) .low) ≼ cond t (whole k over q ⊗ value power) (exactLine start rise d))
+      d limit (λ on-curve. on-curve-side (not-below on-curve)) (λ on-line. floor _ 10 (lit< tt))
+    where
+      on-curve-side : p * power .t ≤ 10 ^ 5 * power .r → whole ((k *ℤ pos p) div (10 ^ 5 * q)) ≼ whole k over q ⊗ value power
+      on-curve-side h =
+          ≼-trans {y = whole (k *ℤ pos p) over (10 ^ 5 * q)} (omega arith) (floor (k *ℤ pos p) (10 ^ 5 * q) (omega arith))
+          (subst (λ z. whole (z *ℤ pos p) over (10 ^ 5 * q) ≼ whole z over q ⊗ value power) (sym (c .is-whole))
+          (record { cross = pos-le (omega (arith, mul-le-mul-left (natAbs k * q) h)) }))
+
+  part-not-over : (d ≤ limit → 10 ^ 5 * power .r ≤ (p + 1) * power .t)
+      → cond (leb d limit) (whole k over q ⊗ value power) (exactLine start rise d)
+      ≼ whole ((cond (leb d limit) (curve k p (10 ^ 5 * q)) (straight start rise d)) .high)
+  part-not-over not-above =
+      either-side
+      (λ t. cond t (whole k over q ⊗ value power) (exactLine start rise d) ≼ whole ((cond t (curve k p (10 ^ 5 * q)) (straight start rise d)) .high))
+      d limit (λ on-curve. on-curve-side (not-above on-curve)) (λ on-line. ceiling _ 10 (lit< tt))
+    where
+      on-curve-side : 10 ^ 5 * power .r ≤ (p + 1) * power .t → whole k over q ⊗ value power ≼ whole ((k *ℤ pos (p + 1)) div (10 ^ 5 * q) +ℤ pos 1)
+      on-curve-side h =
+          ≼-trans {y = whole (k *ℤ pos (p + 1)) over (10 ^ 5 * q)} (omega arith)
+          (subst (λ z. whole z over q ⊗ value power ≼ whole (z *ℤ pos (p + 1)) over (10 ^ 5 * q)) (sym (c .is-whole))
+          (record { cross = pos-le (omega (arith, mul-le-mul-left (natAbs k * q) h)) }))
+          (ceiling (k *ℤ pos (p + 1)) (10 ^ 5 * q) (omega arith))
+
+module _ (g d : ℕ) (power : Given) (in-table : g ≤ 7) where
+  pub crown-not-under : (d ≤ 500 → NotBelowCrown d power) → whole (crownEnds g d .low) ≼ exactCrown g d power
+  unfolding crownEnds exactCrown
+  crown-not-under not-below =
+      part-not-under (Crown.k g) (Crown.a g) (Crown.b g) (crown-k g in-table) 10 (lit< tt) power d 500 (Crown.w d)
+      (λ on-curve. crown-power-not-under d power (not-below on-curve))
+
+  pub crown-not-over : (d ≤ 500 → NotAboveCrown d power) → exactCrown g d power ≼ whole (crownEnds g d .high)
+  unfolding crownEnds exactCrown
+  crown-not-over not-above =
+      part-not-over (Crown.k g) (Crown.a g) (Crown.b g) (crown-k g in-table) 10 (lit< tt) power d 500 (Crown.w d)
+      (λ on-curve. crown-power-not-over d power (not-above on-curve))
+
+module _ (g d : ℕ) (power : Given) (in-table : g ≤ 5) where
+  pub root-not-under : (d ≤ 300 → NotBelowRoot d power) → whole (rootEnds g d .low) ≼ exactRoot g d power
+  unfolding rootEnds exactRoot
+  root-not-under not-below =
+      part-not-under (Root.curveB g) (Root.lineA g) (Root.lineB g) (root-b g in-table) 1 (lit< tt) power d 300 (Root.y d)
+      (λ on-curve. root-power-not-under d power (not-below on-curve))
+
+  pub root-not-over : (d ≤ 300 → NotAboveRoot d power) → exactRoot g d power ≼ whole (rootEnds g d .high)
+  unfolding rootEnds exactRoot
+  root-not-over not-above =
+      part-not-over (Root.curveB g) (Root.lineA g) (Root.lineB g) (root-b g in-table) 1 (lit< tt) power d 300 (Root.y d)
+      (λ on-curve. root-power-not-over d power (not-above on-curve))
+
+-- ---- one tree
+
+-- Three parts added: the ends as `range` has them, which are the same numbers, against the exact values
+whole-sum : (a b c : ℕ) → whole (pos a) ⊕ whole (pos b) ⊕ whole (pos c) ≡ whole (pos (a + b + c))
+whole-sum a b c = ap (λ x. x ⊕ whole (pos c)) (whole-⊕ (pos a) (pos b)) ∙ whole-⊕ (pos (a + b)) (pos c)
+
+module _ {gap gap′ gap″ most most′ most″ : ℕ} {e e′ e″ : Ends} {x x′ x″ : Fraction}
+    (b : Bounded e gap most) (b′ : Bounded e′ gap′ most′) (b″ : Bounded e″ gap″ most″) where
+  sum-not-under : whole (e .low) ≼ x → whole (e′ .low) ≼ x′ → whole (e″ .low) ≼ x″
+      → whole (pos (natAbs (e .low) + natAbs (e′ .low) + natAbs (e″ .low))) ≼ x ⊕ x′ ⊕ x″
+  sum-not-under h h′ h″ =
+      subst (λ l. l ≼ x ⊕ x′ ⊕ x″) (whole-sum (natAbs (e .low)) (natAbs (e′ .low)) (natAbs (e″ .low)))
+      (⊕-mono (⊕-mono (rw (b .low-whole) at h) (rw (b′ .low-whole) at h′)) (rw (b″ .low-whole) at h″))
+
+  sum-not-over : x ≼ whole (e .high) → x′ ≼ whole (e′ .high) → x″ ≼ whole (e″ .high)
+      → x ⊕ x′ ⊕ x″ ≼ whole (pos (natAbs (e .high) + natAbs (e′ .high) + natAbs (e″ .high)))
+  sum-not-over h h′ h″ =
+      subst (λ l. x ⊕ x′ ⊕ x″ ≼ l) (whole-sum (natAbs (e .high)) (natAbs (e′ .high)) (natAbs (e″ .high)))
+      (⊕-mono (⊕-mono (rw (b .high-whole) at h) (rw (b′ .high-whole) at h′)) (rw (b″ .high-whole) at h″))
+
+module _ (t : AverageTree) (m : BiomassRange) (e : tree t ≡ gives m) (crownPower rootPower : Given) where
+  pub tree-not-under : NotBelow t crownPower rootPower → whole (pos (m .low .0)) ≼ exactTree t crownPower rootPower
+  tree-not-under n =
+      let g = tree-gives t m e in
+      let b = parts-bounded g in
+      let on-stem = stem-not-under (t .tariff) (t .d) (t .factor) (t .gravity) (g .tariff .least) (g .tariff .most) (g .d .least) (g .d .most) in
+      let on-crown = crown-not-under (t .crown) (t .d) crownPower (g .crown .most) (n .on-crown) in
+      let on-root = root-not-under (t .root) (t .d) rootPower (g .root .most) (n .on-root) in
+      rw (g .is) (sum-not-under (b .on-stem) (b .on-crown) (b .on-root) on-stem on-crown on-root)
+
+  pub tree-not-over : NotAbove t crownPower rootPower → exactTree t crownPower rootPower ≼ whole (pos (m .high .0))
+  tree-not-over n =
+      let g = tree-gives t m e in
+      let b = parts-bounded g in
+      let on-stem = stem-not-over (t .tariff) (t .d) (t .factor) (t .gravity) (g .tariff .least) (g .tariff .most) (g .d .least) (g .d .most) in
+      let on-crown = crown-not-over (t .crown) (t .d) crownPower (g .crown .most) (n .on-crown) in
+      let on-root = root-not-over (t .root) (t .d) rootPower (g .root .most) (n .on-root) in
+      rw (g .is) (sum-not-over (b .on-stem) (b .on-crown) (b .on-root) on-stem on-crown on-root)
+
+-- ---- one row
+
+-- N / 100 of a tree is not over the row's high, also where N is 0 and no 1 is added
+row-high : (N : ℕ) (one : BiomassRange) {x : Fraction} → x ≼ whole (pos (one .high .0)) → whole (pos N) over 100 ⊗ x ≼ whole (pos (rowOf N one .high .0))
+row-high zero one {x} h = no-share 100 x
+row-high (suc n) one h = rw (eqb·suc-zero n) (share-not-over (suc n) 100 (one .high .0) (lit< tt) h)
+
+module _ (N : ℕ) (t : AverageTree) (m : BiomassRange) (e : row N t ≡ gives m) (crownPower rootPower : Given) where
+  pub row-not-under : NotBelow t crownPower rootPower → whole (pos (m .low .0)) ≼ exactRow N t crownPower rootPower
+  row-not-under n =
+      let g = row-gives N t m e in
+      rw (g .is) (share-not-under N 100 (g .one .low .0) (lit< tt) (tree-not-under t (g .one) (g .one-is) crownPower rootPower n))
+
+  pub row-not-over : NotAbove t crownPower rootPower → exactRow N t crownPower rootPower ≼ whole (pos (m .high .0))
+  row-not-over n =
+      let g = row-gives N t m e in
+      rw (g .is) (row-high N (g .one) (tree-not-over t (g .one) (g .one-is) crownPower rootPower n))

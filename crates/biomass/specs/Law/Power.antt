@@ -1,0 +1,105 @@
+-- What is known of step 5's w and step 6's y.
+-- Both are roots: w^m ≤ 10^c·d^e < (w + 1)^m, with m, c, e = 10000, 25233, 24767 for the crown and 2, 5, 5 for the root, and c + e is 5·m
+-- in both. So where r/t is not below the power, t^m·d^e ≤ r^m·10^e, and (w·t)^m ≤ (10^5·r)^m follows, hence w·t ≤ 10^5·r; the other
+-- end goes the same way. This is shown once, for any m, c and e, so that no such power is computed. Both rise with d.
+use mathlib.Core.Path.{_≡_, refl}
+use mathlib.Core.Bool.{true}
+use Prim.Native.Nat.{ℕ, zero, suc, _+_, _*_, _^_, _≤_, _<_}
+use native.Mathlib.Nat.{pow-zero, pow-suc, pow-lt-pow-left, pow-le-pow-left, le-trans, mul-mul-mul-comm, mul-le-mul-left, mul-le-mul-right, mul-suc, mul-zero, not-le-of-lt, lt-of-not-le, le-of-suc-le-suc, le-of-eq}
+use native.Mathlib.Omega.{arith}
+use lib.Dec.{lit<, lit≤}
+use lib.Pow.{pow-add}
+use Rattle.biomass.specs.Whole.{root}
+use Rattle.biomass.specs.Crown.{w}
+use Rattle.biomass.specs.Root.{y}
+use Rattle.biomass.specs.Exact.{Given, NotBelowCrown, NotAboveCrown, NotBelowRoot, NotAboveRoot}
+use Rattle.biomass.specs.Law.Whole.{root-is, root-not-above, root-below, root-mono}
+use Rattle.biomass.specs.Law.Scaled.{near, tested, root-tested}
+
+-- ---- powers
+
+-- a product's power
+pub mul-pow : (a b m : ℕ) → (a * b) ^ m ≡ a ^ m * b ^ m
+mul-pow a b zero = simp pow-zero
+mul-pow a b (suc m) = rw (pow-suc (a * b), mul-pow a b m, pow-suc a, pow-suc b) (mul-mul-mul-comm (a ^ m) (b ^ m) a b)
+
+-- a power's power
+pub pow-mul : (a j m : ℕ) → (a ^ j) ^ m ≡ a ^ (j * m)
+pow-mul a j zero = rw mul-zero (simp pow-zero)
+pow-mul a j (suc m) = rw (pow-suc, pow-mul a j m, mul-suc, pow-add)
+
+-- powers with one exponent are in the order of their bases
+pub le-of-pow-le : {a b m : ℕ} → 0 < m → a ^ m ≤ b ^ m → a ≤ b
+le-of-pow-le h le = le-of-suc-le-suc (lt-of-not-le (λ lt. not-le-of-lt (pow-lt-pow-left lt (omega arith)) le))
+
+-- ---- a root of 10^c·d^e
+
+module _ (m c e : ℕ) (positive : 0 < m) (five : c + e ≡ 5 * m) where
+  -- 10^5·r to the power m, its tens parted into 10^c and 10^e
+  tens : (r : ℕ) → (10 ^ 5 * r) ^ m ≡ 10 ^ c * (r ^ m * 10 ^ e)
+  tens r = rw (mul-pow, pow-mul 10 5 m, ← five, pow-add) (omega arith)
+
+  -- a fraction r/t that is not below the power, in tenths of d, is not under the root in units of 10^-5
+  not-under : (d r t : ℕ) → t ^ m * d ^ e ≤ r ^ m * 10 ^ e → root m (10 ^ c * d ^ e) * t ≤ 10 ^ 5 * r
+  not-under d r t h =
+      le-of-pow-le positive (rw (mul-pow (root m (10 ^ c * d ^ e)) t m, tens r)
+      (omega (arith, mul-le-mul-right (t ^ m) (root-not-above m (10 ^ c * d ^ e) positive), mul-le-mul-left (10 ^ c) h)))
+
+  -- and one that is not above it is not over the root and 1
+  not-over : (d r t : ℕ) → r ^ m * 10 ^ e ≤ t ^ m * d ^ e → 10 ^ 5 * r ≤ (root m (10 ^ c * d ^ e) + 1) * t
+  not-over d r t h =
+      le-of-pow-le positive (rw (mul-pow (root m (10 ^ c * d ^ e) + 1) t m, tens r)
+      (omega (arith, mul-le-mul-right (t ^ m) (root-below m (10 ^ c * d ^ e) positive), mul-le-mul-left (10 ^ c) h)))
+
+  -- the root rises with d
+  rises : {d d′ : ℕ} → d ≤ d′ → root m (10 ^ c * d ^ e) ≤ root m (10 ^ c * d′ ^ e)
+  rises h = root-mono m positive (mul-le-mul-left (10 ^ c) (pow-le-pow-left h e))
+
+-- ---- w
+
+-- a fraction that is not below the crown power is not under w units of 10^-5
+pub crown-power-not-under : (d : ℕ) (p : Given) → NotBelowCrown d p → w d * p .t ≤ 10 ^ 5 * p .r
+unfolding w
+crown-power-not-under d p h = not-under 10000 25233 24767 (lit< tt) refl d (p .r) (p .t) (h .ge)
+
+-- and one that is not above it is not over w + 1 of them
+pub crown-power-not-over : (d : ℕ) (p : Given) → NotAboveCrown d p → 10 ^ 5 * p .r ≤ (w d + 1) * p .t
+unfolding w
+crown-power-not-over d p h = not-over 10000 25233 24767 (lit< tt) refl d (p .r) (p .t) (h .le)
+
+-- w is what passes the test by rounded powers (Law.Scaled)
+pub w-is : (d x : ℕ) → tested 15 10000 24767 (near 15 0 10 25233) (near 15 1 10 25233) d x ≡ true → w d ≡ x
+unfolding w
+w-is = root-tested 15 10000 25233 24767 (lit< tt) (lit< tt) (lit< tt) (lit< tt)
+
+w-rises : {d d′ : ℕ} → d ≤ d′ → w d ≤ w d′
+unfolding w
+w-rises = rises 10000 25233 24767 (lit< tt) refl
+
+-- the greatest w of a curve's diameter
+pub w-most : (d : ℕ) → d ≤ 500 → w d ≤ 1613760235
+unfolding tested near
+w-most d h = le-trans (w-rises h) (le-of-eq (w-is 500 1613760235 refl))
+
+-- ---- y
+
+-- the same of the root power and y
+pub root-power-not-under : (d : ℕ) (p : Given) → NotBelowRoot d p → y d * p .t ≤ 10 ^ 5 * p .r
+unfolding y
+root-power-not-under d p h = not-under 2 5 5 (lit< tt) refl d (p .r) (p .t) (h .ge)
+
+pub root-power-not-over : (d : ℕ) (p : Given) → NotAboveRoot d p → 10 ^ 5 * p .r ≤ (y d + 1) * p .t
+unfolding y
+root-power-not-over d p h = not-over 2 5 5 (lit< tt) refl d (p .r) (p .t) (h .le)
+
+y-rises : {d d′ : ℕ} → d ≤ d′ → y d ≤ y d′
+unfolding y
+y-rises = rises 2 5 5 (lit< tt) refl
+
+y-at-300 : y 300 ≡ 492950301
+unfolding y
+y-at-300 = root-is 2 (10 ^ 5 * 300 ^ 5) 492950301 (lit< tt) (lit≤ tt) (lit< tt)
+
+-- the greatest y of a curve's diameter
+pub y-most : (d : ℕ) → d ≤ 300 → y d ≤ 492950301
+y-most d h = le-trans (y-rises h) (le-of-eq y-at-300)

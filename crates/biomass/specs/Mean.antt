@@ -1,0 +1,23 @@
+-- Step 2, the mean diameter d, in tenths of a cm.
+use Prim.Native.Nat.{ℕ, _+_, _-_, _*_, _≤_, _<_}
+use lib.Dec.{leb}
+use Rattle.biomass.specs.Whole.{inside, square, greatest}
+use Rattle.biomass.specs.Report.{Report, gives, unless}
+
+-- "Mean d: the whole d with (2d−1)²·n ≤ 400·S < (2d+1)²·n."
+-- `whole` says that 2d − 1 is not cut off at 0
+pub record IsMean (n S d : ℕ) : Type 0 where
+  pub whole : 1 ≤ 2 * d
+  pub not-above : square (2 * d - 1) * n ≤ 400 * S
+  pub below : 400 * S < square (2 * d + 1) * n
+
+-- the greatest d with the first of the two inequalities. Law.Mean shows that this is the d of step 2, and the only one
+unfoldable pub meanOf : ℕ → ℕ → ℕ
+meanOf n S = greatest (λ d. leb (square (2 * d - 1) * n) (400 * S)) 1000
+
+-- "n 1 to 1,000,000; S 49n to 10000n"
+unfoldable pub mean : ℕ → ℕ → Report ℕ
+mean n S =
+    unless (inside 1 n 1000000) 6
+    (unless (inside (49 * n) S (10000 * n)) 6
+    (gives (meanOf n S)))

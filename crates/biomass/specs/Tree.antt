@@ -1,0 +1,32 @@
+-- Step 7, one tree and one row.
+use Prim.Native.Nat.{ℕ, _+_, _*_, _/_}
+use mathlib.Core.Bool.{cond}
+use lib.Dec.{eqb}
+use Rattle.biomass.specs.Whole.{inside}
+use Rattle.biomass.specs.Report.{Report, gives, unless, _then_}
+use Rattle.biomass.specs.Ends.{between}
+use Rattle.biomass.specs.Stem.{stem}
+use Rattle.biomass.specs.Crown.{crown}
+use Rattle.biomass.specs.Root.{root}
+use Rattle.biomass.specs.declared.units.BiomassRange.{BiomassRange}
+use Rattle.biomass.specs.declared.tree.AverageTree.{AverageTree}
+
+-- "mL and mH are the three lows and the three highs added."
+abbrev pub added : BiomassRange → BiomassRange → BiomassRange → BiomassRange
+added s c r = between (s .low .0 + c .low .0 + r .low .0) (s .high .0 + c .high .0 + r .high .0)
+
+-- what one part declines, the tree declines
+unfoldable pub tree : AverageTree → Report BiomassRange
+tree t =
+    stem (t .tariff) (t .d) (t .factor) (t .gravity) then λ s.
+    crown (t .crown) (t .d) then λ c.
+    root (t .root) (t .d) then λ r.
+    gives (added s c r)
+
+-- "Row low = N·mL div 100; row high = N·mH div 100 + 1, or 0 when N = 0."
+abbrev pub rowOf : ℕ → BiomassRange → BiomassRange
+rowOf N m = between (N * m .low .0 / 100) (cond (eqb N 0) 0 (N * m .high .0 / 100 + 1))
+
+-- "1,000,000 estimated trees a line", in hundredths
+unfoldable pub row : ℕ → AverageTree → Report BiomassRange
+row N t = unless (inside 0 N 100000000) 6 (tree t then λ m. gives (rowOf N m))

@@ -1,0 +1,15 @@
+// The figures of one line of a field book: document 01, steps 1 to 7 and the project's two figures.
+// This crate knows nothing of books, lines or commands. Each routine makes its own checks, answers any
+// arguments at all, and promises an equation over a definition of specs/.
+pub mod answer;
+pub mod crown;
+pub mod mean;
+mod part;
+pub mod project;
+pub mod root;
+pub mod stem;
+pub mod tariff;
+pub mod tree;
+pub mod trees;
+pub mod units;
+mod whole;

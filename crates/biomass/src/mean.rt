@@ -1,0 +1,41 @@
+// Step 2: the mean diameter.
+use super::answer::Count;
+use super::answer::Refusal;
+use super::whole::within;
+ghost use mathlib.Core.Path.{_≡_};
+ghost use Prim.Native.Nat.{_*_};
+ghost use Rattle.biomass.specs.Report.{count};
+ghost use Rattle.biomass.specs.Mean.{mean, meanOf};
+ghost use Rattle.biomass.specs.Law.Report.{Inside};
+
+// The mean itself: the interval of diameters that holds it is halved until one is left.
+fn mean_of(n: u64, squares: u64) -> u64
+    requires { ⌜ Inside 1 n 1000000 × Inside (49 * n) squares (10000 * n) ⌝ }
+    ensures { λ r. ⌜ r ≡ meanOf n squares ⌝ }
+{
+    let mut low: u64 = 70;
+    let mut above: u64 = 1001;
+    while 1 < above - low {
+        let middle = low + (above - low) / 2;
+        let side = 2 * middle - 1;
+        if side * side * n <= 400 * squares {
+            low = middle;
+        } else {
+            above = middle;
+        }
+    }
+    low
+}
+
+// The mean diameter in tenths of a cm of n trees whose classes in cm, squared, add up to `squares`.
+pub fn mean(n: u64, squares: u64) -> Count
+    ensures { λ r. ⌜ count r ≡ mean n squares ⌝ }
+{
+    if !within(1, n, 1_000_000) {
+        return Count::Refused(Refusal::Operand);
+    }
+    if !within(49 * n, squares, 10_000 * n) {
+        return Count::Refused(Refusal::Operand);
+    }
+    Count::Is(mean_of(n, squares))
+}

@@ -1,0 +1,59 @@
+// Step 6: the root's biomass.
+use super::answer::Biomass;
+use super::answer::Refusal;
+use super::part::on_curve;
+use super::part::on_line;
+use super::units::BiomassRange;
+use super::whole::square_root;
+use super::whole::within;
+ghost use mathlib.Core.Path.{_≡_};
+ghost use Prim.Native.Nat.{_≤_};
+ghost use Rattle.biomass.specs.Report.{biomass};
+ghost use Rattle.biomass.specs.Ends.{range};
+ghost use Rattle.biomass.specs.Law.Report.{Inside};
+ghost use Rattle.biomass.specs.Root.{root, rootEnds, y};
+
+// Western red cedar and noble fir and Corsican pine, Norway spruce, grand fir and Scots pine and western hemlock,
+// Douglas fir and Japanese larch and lodgepole pine, Sitka spruce, red alder.
+// Each row: b of Table 5.2.4, a and b of Table 5.2.5, in mg.
+const ROOT: [[i64; 3]; 6] = [
+    [10_722, -82_602_857, 4_515_233],
+    [11_883, -91_547_262, 5_004_152],
+    [15_404, -118_673_233, 6_486_910],
+    [17_326, -133_480_423, 7_296_300],
+    [20_454, -157_578_701, 8_613_559],
+    [22_700, -174_882_004, 9_559_391],
+];
+
+// The whole units of the root power at d.
+fn root_power(d: u64) -> u64
+    requires { ⌜ d ≤ 300 ⌝ }
+    ensures { λ r. ⌜ r ≡ y d ⌝ }
+{
+    square_root(100_000 * (d * d * d * d * d))
+}
+
+fn root_in_range(group: u64, d: u64) -> BiomassRange
+    requires { ⌜ Inside 0 group 5 × Inside 70 d 1000 ⌝ }
+    ensures { λ r. ⌜ r ≡ range (rootEnds group d) ⌝ }
+{
+    let at = group as usize;
+    let row = ROOT[at];
+    if d <= 300 {
+        return on_curve(row[0] as u64, root_power(d), 100_000);
+    }
+    on_line(row[1], row[2], d)
+}
+
+// The biomass of the root of a tree of the mean diameter d, in tenths of a cm.
+pub fn root(group: u64, d: u64) -> Biomass
+    ensures { λ r. ⌜ biomass r ≡ root group d ⌝ }
+{
+    if !within(0, group, 5) {
+        return Biomass::Refused(Refusal::Operand);
+    }
+    if !within(70, d, 1000) {
+        return Biomass::Refused(Refusal::Operand);
+    }
+    Biomass::Is(root_in_range(group, d))
+}

@@ -1,0 +1,31 @@
+// Step 3: the number of trees that a line's measured trees stand for.
+use super::answer::Count;
+use super::answer::Refusal;
+use super::whole::within;
+ghost use mathlib.Core.Path.{_≡_};
+ghost use Rattle.biomass.specs.Report.{count};
+ghost use Rattle.biomass.specs.Trees.{trees, treesOf};
+ghost use Rattle.biomass.specs.Law.Report.{Inside};
+
+fn trees_of(n: u64, p: u64, q: u64) -> u64
+    requires { ⌜ Inside 0 n 1000000 × Inside 1 p 100000000 × Inside 1 q 100000000 ⌝ }
+    ensures { λ r. ⌜ r ≡ treesOf n p q ⌝ }
+{
+    (200 * n * p + q) / (2 * q)
+}
+
+// Estimated trees in hundredths: n measured ones, scaled by p over q.
+pub fn trees(n: u64, p: u64, q: u64) -> Count
+    ensures { λ r. ⌜ count r ≡ trees n p q ⌝ }
+{
+    if !within(0, n, 1_000_000) {
+        return Count::Refused(Refusal::Operand);
+    }
+    if !within(1, p, 100_000_000) {
+        return Count::Refused(Refusal::Operand);
+    }
+    if !within(1, q, 100_000_000) {
+        return Count::Refused(Refusal::Operand);
+    }
+    Count::Is(trees_of(n, p, q))
+}
