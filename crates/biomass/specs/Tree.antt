@@ -11,6 +11,10 @@ use Rattle.biomass.specs.Root.{root}
 use Rattle.biomass.specs.declared.units.BiomassRange.{BiomassRange}
 use Rattle.biomass.specs.declared.tree.AverageTree.{AverageTree}
 
+-- all that steps 4 to 6 are worked from: T, d, f, s and the two groups
+abbrev pub averageTree : ℕ → ℕ → ℕ → ℕ → ℕ → ℕ → AverageTree
+averageTree T d f s g h = record { tariff = T; d = d; factor = f; gravity = s; crown = g; root = h }
+
 -- "mL and mH are the three lows and the three highs added."
 abbrev pub added : BiomassRange → BiomassRange → BiomassRange → BiomassRange
 added s c r = between (s .low .0 + c .low .0 + r .low .0) (s .high .0 + c .high .0 + r .high .0)
