@@ -1,5 +1,4 @@
 -- What the crown and the root ask of the numbers of their tables: read back from 64 signed bits they are what they were.
--- Assumes nothing.
 use Prim.Native.Nat.{ℕ, _^_, _<_, _≤_}
 use native.Mathlib.Nat.{le-trans, le-of-lt, lt-trans, lt-of-le-of-lt}
 use mathlib.Core.Path.{_≡_, _∙_, sym, ap, subst₂}

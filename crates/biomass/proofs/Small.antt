@@ -1,6 +1,5 @@
 -- Signed arithmetic far from the ends of 64 bits. `Small X x k`: the machine's value X is the whole number x, which is at most k in size.
 -- Sums and products of small numbers are small, with the bounds added and multiplied, so that each fits by one comparison of numerals.
--- Assumes nothing.
 use Prim.Native.Nat.{ℕ, _+_, _*_, _^_, _≤_, _<_}
 use native.Mathlib.Nat.{mul-le-mul, le-trans, lt-of-le-of-lt, le-of-eq, add-le-add}
 use native.Mathlib.Omega.{arith}

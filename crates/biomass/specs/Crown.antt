@@ -3,11 +3,10 @@ use Prim.Native.Nat.{ℕ, _*_, _^_}
 use mathlib.Core.Bool.{cond}
 use mathlib.Core.List.{List, [], _∷_}
 use lib.Dec.{leb}
-use lib.ListN.{getD}
 use lib.IntN.{ℤ, pos, negℤ}
 use Rattle.biomass.specs.Whole.{inside, root}
 use Rattle.biomass.specs.Report.{Report, gives, unless}
-use Rattle.biomass.specs.Ends.{Ends, range, curve, straight}
+use Rattle.biomass.specs.Ends.{Ends, range, entry, curve, straight}
 use Rattle.biomass.specs.declared.units.BiomassRange.{BiomassRange}
 
 -- "Crown groups 0 to 7, each a row of k, a and b, in Table 5.2.3's order (larches first, oak last). k is Table 5.2.2 in 10^-10 t; a and b
@@ -23,17 +22,14 @@ crownTable =
     (pos 188154 ∷ negℤ (pos 459518648) ∷ pos 15263082 ∷ []) ∷
     (pos 168513 ∷ negℤ (pos 411550464) ∷ pos 13669801 ∷ []) ∷ []
 
-abbrev pub crownRow : ℕ → List ℤ
-crownRow g = getD crownTable g []
-
 abbrev pub k : ℕ → ℤ
-k g = getD (crownRow g) 0 (pos 0)
+k g = entry crownTable g 0
 
 abbrev pub a : ℕ → ℤ
-a g = getD (crownRow g) 1 (pos 0)
+a g = entry crownTable g 1
 
 abbrev pub b : ℕ → ℤ
-b g = getD (crownRow g) 2 (pos 0)
+b g = entry crownTable g 2
 
 -- "w is the greatest whole number with w^10000 ≤ 10^25233·d^24767"
 unfoldable pub w : ℕ → ℕ

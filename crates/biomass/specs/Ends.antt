@@ -1,6 +1,8 @@
 -- A part's low and high. Steps 4 to 6 subtract on the way, so they are worked in ℤ; Law shows of each part that both ends come out at 0
 -- or above, so that `range`, which the code hands back, has the same numbers.
-use Prim.Native.Nat.{ℕ, _+_, _^_}
+use Prim.Native.Nat.{ℕ, _+_}
+use mathlib.Core.List.{List, []}
+use lib.ListN.{getD}
 use lib.IntN.{ℤ, pos, _+ℤ_, _*ℤ_, natAbs}
 use Rattle.biomass.specs.Whole.{_div_}
 use Rattle.biomass.specs.declared.units.Milligrams.{Milligrams}
@@ -15,6 +17,10 @@ between l h = record { low = record { 0 = l }; high = record { 0 = h } }
 
 abbrev pub range : Ends → BiomassRange
 range e = between (natAbs (e .low)) (natAbs (e .high))
+
+-- The number in a column of a group's row
+abbrev pub entry : List (List ℤ) → ℕ → ℕ → ℤ
+entry table group column = getD (getD table group []) column (pos 0)
 
 -- A coefficient times a power of the diameter, of which p whole units, m to the mg, are known: "low = k·w div 10^6, high = k·(w+1) div 10^6 + 1"
 abbrev pub curve : ℤ → ℕ → ℕ → Ends

@@ -10,7 +10,6 @@ pub mod Crown
 pub mod Root
 pub mod Tree
 pub mod Project
-pub mod Exports
 pub mod Fraction
 pub mod Exact
 pub mod Law

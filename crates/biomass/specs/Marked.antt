@@ -1,7 +1,7 @@
 -- Document 01's marked lines (a) to (i), as one list in its order, and one theorem: all of them hold.
 -- Each entry says what the definition reports at the line's measures. Line (j) is about a book, and this layer knows no books: the layer
 -- above puts it behind this list, and `all-join` of borrow.Fn.Claims makes one theorem of the two parts.
-use Prim.Native.Nat.{ℕ, _+_, _*_, _^_, _≤_, _<_}
+use Prim.Native.Nat.{ℕ}
 use mathlib.Core.Path.{_≡_, refl, ap}
 use mathlib.Core.List.{List, [], _∷_}
 use lib.Dec.{lit≤, lit<}
@@ -12,9 +12,9 @@ use Rattle.biomass.specs.Tariff.{singleTariff, lineTariff}
 use Rattle.biomass.specs.Mean.{mean}
 use Rattle.biomass.specs.Ends.{between}
 use Rattle.biomass.specs.Crown.{crown, crownEnds}
-use Rattle.biomass.specs.Root.{root, rootEnds, y}
+use Rattle.biomass.specs.Root.{root, rootEnds}
 use Rattle.biomass.specs.declared.units.BiomassRange.{BiomassRange}
-use Rattle.biomass.specs.Law.Whole.{square-root-is}
+use Rattle.biomass.specs.Law.Power.{y-is}
 use Rattle.biomass.specs.Law.Mean.{mean-between}
 
 -- the last group of the roots, and the last of the crowns
@@ -49,11 +49,6 @@ marked =
     (lowOf (root redAlder 301) ≡ gives 112855665) ∷
     -- (i) "oak crown, d 501: low 273306566"
     (lowOf (crown oak 501) ≡ gives 273306566) ∷ []
-
--- 10^5·d^5 lies between the squares of y and of the next number, so y need not be computed
-y-is : (d r : ℕ) → r * r ≤ 10 ^ 5 * d ^ 5 → 10 ^ 5 * d ^ 5 < (r + 1) * (r + 1) → y d ≡ r
-unfolding y
-y-is d r le lt = square-root-is (10 ^ 5 * d ^ 5) r le lt
 
 -- The tariffs and the straight lines, (a) to (c), (h) and (i), compute. A mean is the d between whose two odd squares 400·S lies, and the
 -- roots of (f) and (g) come from y.

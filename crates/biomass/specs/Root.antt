@@ -3,11 +3,10 @@ use Prim.Native.Nat.{ℕ, _*_, _^_}
 use mathlib.Core.Bool.{cond}
 use mathlib.Core.List.{List, [], _∷_}
 use lib.Dec.{leb}
-use lib.ListN.{getD}
 use lib.IntN.{ℤ, pos, negℤ}
 use Rattle.biomass.specs.Whole.{inside, root as wholeRoot}
 use Rattle.biomass.specs.Report.{Report, gives, unless}
-use Rattle.biomass.specs.Ends.{Ends, range, curve, straight}
+use Rattle.biomass.specs.Ends.{Ends, range, entry, curve, straight}
 use Rattle.biomass.specs.declared.units.BiomassRange.{BiomassRange}
 
 -- "Root groups 0 to 5 in Table 5.2.4's order, b in mg. .. Above, as the crown above 500, by Table 5.2.5."
@@ -21,17 +20,14 @@ rootTable =
     (pos 20454 ∷ negℤ (pos 157578701) ∷ pos 8613559 ∷ []) ∷
     (pos 22700 ∷ negℤ (pos 174882004) ∷ pos 9559391 ∷ []) ∷ []
 
-abbrev pub rootRow : ℕ → List ℤ
-rootRow g = getD rootTable g []
-
 abbrev pub curveB : ℕ → ℤ
-curveB g = getD (rootRow g) 0 (pos 0)
+curveB g = entry rootTable g 0
 
 abbrev pub lineA : ℕ → ℤ
-lineA g = getD (rootRow g) 1 (pos 0)
+lineA g = entry rootTable g 1
 
 abbrev pub lineB : ℕ → ℤ
-lineB g = getD (rootRow g) 2 (pos 0)
+lineB g = entry rootTable g 2
 
 -- "y is the greatest with y² ≤ 10^5·d^5"
 unfoldable pub y : ℕ → ℕ

@@ -3,7 +3,6 @@
 // arguments at all, and promises an equation over a definition of specs/.
 pub mod answer;
 pub mod crown;
-pub mod exports;
 pub mod mean;
 mod part;
 pub mod project;

@@ -6,10 +6,10 @@ use super::units::Milligrams;
 use super::whole::within;
 ghost use mathlib.Core.Path.{_≡_};
 ghost use Prim.Native.Nat.{_≤_};
+ghost use lib.IntN.{pos};
 ghost use Rattle.biomass.specs.Report.{biomass};
 ghost use Rattle.biomass.specs.Ends.{range};
-ghost use Rattle.biomass.specs.Stem.{stem, stemEnds};
-ghost use Rattle.biomass.specs.Law.Stem.{Volumes};
+ghost use Rattle.biomass.specs.Stem.{stem, stemEnds, VL, VH};
 
 // The merchantable volume between two ends, in document 01's unit for VL and VH.
 struct VolumeEnds {
@@ -20,7 +20,7 @@ struct VolumeEnds {
 // Equation 5. Below 0.118288 m² of basal area the slope counts against the volume, so there the greater slope gives the low.
 fn volume(tariff: u64, d: u64) -> VolumeEnds
     requires { ⌜ (1 ≤ tariff) × (tariff ≤ 50) × (70 ≤ d) × (d ≤ 1000) ⌝ }
-    ensures { λ r. ⌜ Volumes tariff d (r .low) (r .high) ⌝ }
+    ensures { λ r. ⌜ (VL tariff d ≡ pos (r .low)) × (VH tariff d ≡ pos (r .high)) × (r .high ≤ 1228217028537058651) ⌝ }
 {
     let area = 314_159_265 * (d * d) / 400_000;
     let slope = 315_049_301 * (1_000_000_000 * tariff - 138_763_302) / 10_000_000_000;

@@ -7,8 +7,12 @@ use Rattle.biomass.specs.Whole.{inside}
 use Rattle.biomass.specs.Report.{Report, refused, gives, unless, _then_}
 use Rattle.biomass.specs.Law.Report.{Inside, inside-true}
 
-never : {A X : Type 0} {n : ℕ} {a : A} → _≡_ {A = Report A} (refused n) (gives a) → X
+pub never : {A X : Type 0} {n : ℕ} {a : A} → _≡_ {A = Report A} (refused n) (gives a) → X
 never e = let clash : _≡_ {A = ℕ} 0 1 = cc in absurd (omega arith)
+
+-- a report gives one figure
+pub figure-is : {A : Type 0} {a b : A} → _≡_ {A = Report A} (gives a) (gives b) → a ≡ b
+figure-is e = cc
 
 -- a range check before the rest of a report that gives a
 pub record Passed {A : Type 0} (lo x hi : ℕ) (rest : Report A) (a : A) : Type 0 where

@@ -3,14 +3,16 @@
 use Prim.Native.Nat.{ℕ, _+_, _-_, _*_, _≤_, _<_}
 use native.Mathlib.Nat.{mul-le-mul, mul-le-mul-right, le-trans, lt-of-lt-of-le, lt-of-not-le, lt-irrefl, not-le-of-lt, le-of-suc-le-suc}
 use native.Mathlib.Omega.{arith}
-use mathlib.Core.Path.{_≡_, sym}
+use mathlib.Core.Path.{_≡_, sym, subst}
 use mathlib.Core.Bool.{Bool}
 use lib.Dec.{leb}
 use borrow.Author.Tests.{le-leb, lt-leb, leb-true}
 use Rattle.biomass.specs.Whole.{square}
-use Rattle.biomass.specs.Mean.{IsMean, meanOf}
+use Rattle.biomass.specs.Mean.{IsMean, meanOf, mean}
 use Rattle.biomass.specs.Law.Whole.{greatest-is, greatest-passes, le-greatest}
+use Rattle.biomass.specs.Report.{gives}
 use Rattle.biomass.specs.Law.Report.{Inside}
+use Rattle.biomass.specs.Law.Gives.{passed, figure-is}
 
 -- the side of step 2's first inequality rises with d
 side-mono : (n : ℕ) {d k : ℕ} → d ≤ k → square (2 * d - 1) * n ≤ square (2 * k - 1) * n
@@ -73,3 +75,22 @@ module _ (n S : ℕ) (trees : Inside 1 n 1000000) (squares : Inside (49 * n) S (
   -- and no other number is
   pub mean-only : (d : ℕ) → IsMean n S d → d ≡ meanOf n S
   mean-only d is = sym (mean-between n S d (to-1000 d (is .not-above)) (is .not-above) (rw next-odd (is .below)))
+
+-- what the layer above is given: a mean that is given is step 2's, and is 70 to 1000
+pub record MeanGives (n S d : ℕ) : Type 0 where
+  pub trees : Inside 1 n 1000000
+  pub squares : Inside (49 * n) S (10000 * n)
+  pub is : IsMean n S d
+  pub range : Inside 70 d 1000
+
+pub mean-gives : (n S d : ℕ) → mean n S ≡ gives d → MeanGives n S d
+unfolding mean
+mean-gives n S d e =
+    let t = passed 1 n 1000000 6 _ e in
+    let s = passed (49 * n) S (10000 * n) 6 (gives (meanOf n S)) (t .next) in
+    subst (λ (m : ℕ). MeanGives n S m) (figure-is (s .next)) (record {
+      trees = t .in-range;
+      squares = s .in-range;
+      is = mean-is n S (t .in-range) (s .in-range);
+      range = mean-range n S (t .in-range) (s .in-range);
+    })

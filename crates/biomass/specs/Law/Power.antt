@@ -13,7 +13,7 @@ use Rattle.biomass.specs.Whole.{root}
 use Rattle.biomass.specs.Crown.{w}
 use Rattle.biomass.specs.Root.{y}
 use Rattle.biomass.specs.Exact.{Given, NotBelowCrown, NotAboveCrown, NotBelowRoot, NotAboveRoot}
-use Rattle.biomass.specs.Law.Whole.{root-is, root-not-above, root-below, root-mono}
+use Rattle.biomass.specs.Law.Whole.{square-root-is, root-not-above, root-below, root-mono}
 use Rattle.biomass.specs.Law.Scaled.{near, tested, root-tested}
 
 -- ---- powers
@@ -96,10 +96,11 @@ y-rises : {d d′ : ℕ} → d ≤ d′ → y d ≤ y d′
 unfolding y
 y-rises = rises 2 5 5 (lit< tt) refl
 
-y-at-300 : y 300 ≡ 492950301
+-- y is the number between whose square and the next one's 10^5·d^5 lies, so that it need not be computed
+pub y-is : (d r : ℕ) → r * r ≤ 10 ^ 5 * d ^ 5 → 10 ^ 5 * d ^ 5 < (r + 1) * (r + 1) → y d ≡ r
 unfolding y
-y-at-300 = root-is 2 (10 ^ 5 * 300 ^ 5) 492950301 (lit< tt) (lit≤ tt) (lit< tt)
+y-is d r le lt = square-root-is (10 ^ 5 * d ^ 5) r le lt
 
 -- the greatest y of a curve's diameter
 pub y-most : (d : ℕ) → d ≤ 300 → y d ≤ 492950301
-y-most d h = le-trans (y-rises h) (le-of-eq y-at-300)
+y-most d h = le-trans (y-rises h) (le-of-eq (y-is 300 492950301 (lit≤ tt) (lit< tt)))

@@ -7,14 +7,12 @@ use borrow.Author.Tests.{leb-true, le-leb, not-true, not-false}
 use Rattle.biomass.specs.Whole.{inside}
 use Rattle.biomass.specs.Report.{Report, refused, gives, unless, _then_}
 
--- the code refuses where `!test`, and goes on where not: `answer` is the routine's own test, which its promise makes the definition's
-pub refuses : {A : Type 0} (answer test : Bool) (n : ℕ) (x next : Report A) → answer ≡ test → not answer ≡ true → x ≡ refused n → x ≡ unless test n next
-refuses answer test n x next e t r = r ∙ ap (λ (b : Bool). unless b n next) (sym (not-true answer t) ∙ e)
+-- The code refuses where `!answer` and goes on where not; `answer` is the routine's own test, which its promise makes the definition's
+pub refuses : {A : Type 0} {answer : Bool} {n : ℕ} (test : Bool) (next : Report A) → answer ≡ test → not answer ≡ true → refused n ≡ unless test n next
+refuses {answer} {n} test next e t = ap (λ (b : Bool). unless b n next) (sym (not-true answer t) ∙ e)
 
-pub goes-on : {A : Type 0} (answer test : Bool) (n : ℕ) (x next : Report A) → answer ≡ test → not answer ≡ false → x ≡ next → x ≡ unless test n next
-goes-on answer test n x next e t r = r ∙ ap (λ (b : Bool). unless b n next) (sym (not-false answer t) ∙ e)
-
-pub ruleset checks = (refuses, goes-on)
+pub goes-on : {A : Type 0} {answer : Bool} {x : Report A} (test : Bool) (n : ℕ) (next : Report A) → answer ≡ test → not answer ≡ false → x ≡ next → x ≡ unless test n next
+goes-on {answer} test n next e t r = r ∙ ap (λ (b : Bool). unless b n next) (sym (not-false answer t) ∙ e)
 
 pub record Inside (lo x hi : ℕ) : Type 0 where
   pub least : lo ≤ x
@@ -44,8 +42,8 @@ pub true-inside : (lo x hi : ℕ) → lo ≤ x → x ≤ hi → inside lo x hi �
 true-inside lo x hi l m = ap (λ (s : Bool). cond s (leb x hi) false) (le-leb lo x l) ∙ le-leb x hi m
 
 -- a report made of another one: a refusal stands, and a figure goes on
-pub stops : {A B : Type 0} (first : Report A) (n : ℕ) (f : A → Report B) → first ≡ refused n → refused n ≡ (first then f)
-stops first n f e = ap (λ (r : Report _). r then f) (sym e)
+pub stops : {A B : Type 0} {n : ℕ} (first : Report A) (f : A → Report B) → first ≡ refused n → refused n ≡ (first then f)
+stops first f e = ap (λ (r : Report _). r then f) (sym e)
 
-pub follows : {A B : Type 0} (first : Report A) (a : A) (f : A → Report B) (x : Report B) → first ≡ gives a → x ≡ f a → x ≡ (first then f)
-follows first a f x e r = r ∙ ap (λ (q : Report _). q then f) (sym e)
+pub follows : {A B : Type 0} {x : Report B} {a : A} (first : Report A) (f : A → Report B) → first ≡ gives a → x ≡ f a → x ≡ (first then f)
+follows first f e r = r ∙ ap (λ (q : Report _). q then f) (sym e)

@@ -28,7 +28,7 @@ cast-on-curve : tie.Need-cast-on-curve
 cast-on-curve c = cast (crown-k _ (c .before .before .before .pre .0 .most)) (lit< tt)
 
 crown-power-requires : tie.Need-crown-power-requires
-crown-power-requires c κs = search needs
+crown-power-requires c κs = omega arith
 
 on-curve-requires : tie.Need-on-curve-requires
 on-curve-requires c κs =

@@ -1,17 +1,18 @@
 -- `biomass::mean::mean` meets its contract: each test of the code is the definition's, and past the first n is at most a million.
-use borrow.Author.Needs.{needs}
+use mathlib.Core.Path.{ap}
 use native.Mathlib.Omega.{arith}
 use Rattle.biomass.specs.Mean.{mean}
-use Rattle.biomass.specs.Law.Report.{checks, in-range}
+use Rattle.biomass.specs.Report.{gives}
+use Rattle.biomass.specs.Law.Report.{refuses, goes-on, in-range}
 use Rattle.biomass.proofs.mean.mean.Statement.{statement}
 use Rattle.biomass.proofs.mean.mean.Tie as tie
 
 within-requires : tie.Need-within-requires
-within-requires c κs = search needs
+within-requires c κs = tt
 
 returns : tie.Need-returns
 unfolding mean
-returns c = search checks
+returns c = refuses _ _ (c .before .within .ensures) (c .if1 .taken)
 
 mul-within : tie.Need-mul-within
 mul-within c = omega (arith, in-range {lo = 1} {x = c .before .before .args .n} {hi = 1000000} (c .before .within .ensures) (c .if1 .left))
@@ -20,11 +21,13 @@ mul-within-2 : tie.Need-mul-within-2
 mul-within-2 c = omega (arith, in-range {lo = 1} {x = c .before .before .args .n} {hi = 1000000} (c .before .within .ensures) (c .if1 .left))
 
 within-requires-2 : tie.Need-within-requires-2
-within-requires-2 c κs = search needs
+within-requires-2 c κs = tt
 
 returns-2 : tie.Need-returns-2
 unfolding mean
-returns-2 c = search checks
+returns-2 c =
+    let first = c .before .before in
+    goes-on _ _ _ (first .before .within .ensures) (first .if1 .left) (refuses _ _ (c .before .within2 .ensures) (c .if2 .taken))
 
 mean-of-requires : tie.Need-mean-of-requires
 mean-of-requires c κs =
@@ -33,7 +36,10 @@ mean-of-requires c κs =
 
 returns-3 : tie.Need-returns-3
 unfolding mean
-returns-3 c = search checks
+returns-3 c =
+    let second = c .before in
+    let first = second .before .before in
+    goes-on _ _ _ (first .before .within .ensures) (first .if1 .left) (goes-on _ _ _ (second .before .within2 .ensures) (second .if2 .left) (ap gives (c .mean-of .ensures)))
 
 pub mean-spec : {M : Type 1} → statement M
 mean-spec =

@@ -1,6 +1,5 @@
 -- `biomass::mean::mean_of` meets its contract: step 2's first inequality holds at `low` and no more at `above`, which start at 70 and 1001. The distance falls,
 -- and where it is 1, `low` is the mean (`mean-between`).
--- Assumes nothing.
 use Prim.Native.Nat.{ℕ, _+_, _-_, _*_, _^_, _≤_, _<_}
 use native.Mathlib.Omega.{arith}
 use native.Mathlib.Nat.{mul-le-mul, lt-of-le-of-lt}

@@ -1,6 +1,5 @@
 -- `biomass::part::on_line` meets its contract: the start and the rise are at most 10^9 in size and d at most 1000, so the sum is far from the ends of 64 bits; and it
 -- is not negative (`Rising`), so that its cast to an unsigned number is itself.
--- Assumes nothing.
 use borrow.Author.Needs.{needs}
 use Prim.Native.Nat.{ℕ, _+_, _*_, _^_, _≤_}
 use native.Mathlib.Omega.{arith}

@@ -1,27 +1,28 @@
 -- `biomass::project::project` meets its contract: each test of the code is the definition's, and past them eleven times a sum is within 64 bits.
-use borrow.Author.Needs.{needs}
 use borrow.Author.Tests.{eq-eqb, ne-eqb}
 use native.Mathlib.Omega.{arith}
 use mathlib.Core.Path.{ap}
 use Rattle.biomass.specs.declared.units.Grams.{Grams}
 use Rattle.biomass.specs.Project.{project, greatestSum}
-use Rattle.biomass.specs.Law.Report.{checks, in-range, held, Inside}
+use Rattle.biomass.specs.Law.Report.{refuses, goes-on, in-range, held, Inside}
 use Rattle.biomass.proofs.project.project.Statement.{statement}
 use Rattle.biomass.proofs.project.project.Tie as tie
 
 within-requires : tie.Need-within-requires
-within-requires c κs = search needs
+within-requires c κs = tt
 
 returns : tie.Need-returns
 unfolding project
-returns c = search checks
+returns c = refuses _ _ (c .before .within .ensures) (c .if1 .taken)
 
 within-requires-2 : tie.Need-within-requires-2
-within-requires-2 c κs = search needs
+within-requires-2 c κs = tt
 
 returns-2 : tie.Need-returns-2
 unfolding project
-returns-2 c = search checks
+returns-2 c =
+    let first = c .before .before in
+    goes-on _ _ _ (first .before .within .ensures) (first .if1 .left) (refuses _ _ (c .before .within2 .ensures) (c .if2 .taken))
 
 dioxide-requires : tie.Need-dioxide-requires
 dioxide-requires c κs = in-range (c .before .before .before .within .ensures) (c .before .before .if1 .left) .most

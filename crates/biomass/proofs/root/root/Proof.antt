@@ -1,23 +1,26 @@
 -- `biomass::root::root` meets its contract: each test of the code is the definition's.
-use borrow.Author.Needs.{needs}
+use mathlib.Core.Path.{ap}
 use Rattle.biomass.specs.Root.{root}
-use Rattle.biomass.specs.Law.Report.{checks, in-range}
+use Rattle.biomass.specs.Report.{gives}
+use Rattle.biomass.specs.Law.Report.{refuses, goes-on, in-range}
 use Rattle.biomass.proofs.root.root.Statement.{statement}
 use Rattle.biomass.proofs.root.root.Tie as tie
 
 within-requires : tie.Need-within-requires
-within-requires c κs = search needs
+within-requires c κs = tt
 
 returns : tie.Need-returns
 unfolding root
-returns c = search checks
+returns c = refuses _ _ (c .before .within .ensures) (c .if1 .taken)
 
 within-requires-2 : tie.Need-within-requires-2
-within-requires-2 c κs = search needs
+within-requires-2 c κs = tt
 
 returns-2 : tie.Need-returns-2
 unfolding root
-returns-2 c = search checks
+returns-2 c =
+    let first = c .before .before in
+    goes-on _ _ _ (first .before .within .ensures) (first .if1 .left) (refuses _ _ (c .before .within2 .ensures) (c .if2 .taken))
 
 root-in-range-requires : tie.Need-root-in-range-requires
 root-in-range-requires c κs =
@@ -26,7 +29,10 @@ root-in-range-requires c κs =
 
 returns-3 : tie.Need-returns-3
 unfolding root
-returns-3 c = search checks
+returns-3 c =
+    let second = c .before in
+    let first = second .before .before in
+    goes-on _ _ _ (first .before .within .ensures) (first .if1 .left) (goes-on _ _ _ (second .before .within2 .ensures) (second .if2 .left) (ap gives (c .root-in-range .ensures)))
 
 pub root-spec : {M : Type 1} → statement M
 root-spec =

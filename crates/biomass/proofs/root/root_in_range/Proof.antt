@@ -28,7 +28,7 @@ cast-on-curve : tie.Need-cast-on-curve
 cast-on-curve c = cast (root-b _ (c .before .before .before .pre .0 .most)) (lit< tt)
 
 root-power-requires : tie.Need-root-power-requires
-root-power-requires c κs = search needs
+root-power-requires c κs = omega arith
 
 on-curve-requires : tie.Need-on-curve-requires
 on-curve-requires c κs =

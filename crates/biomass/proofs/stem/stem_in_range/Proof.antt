@@ -1,5 +1,5 @@
--- `stem::stem_in_range` meets its contract. What `volume` ensures fixes both ends of the stem (`stem-ends`), and the two products stay far
--- below 64 bits. Assumes nothing.
+-- `biomass::stem::stem_in_range` meets its contract. What `volume` ensures fixes both ends of the stem (`stem-ends`), and the two products stay far
+-- below 64 bits.
 use mathlib.Core.Path.{ap, sym}
 use Prim.Native.Nat.{_+_, _/_}
 use native.Mathlib.Omega.{arith}
@@ -10,7 +10,7 @@ use Rattle.biomass.proofs.stem.stem_in_range.Statement.{statement}
 use Rattle.biomass.proofs.stem.stem_in_range.Tie as tie
 
 volume-requires : tie.Need-volume-requires
-volume-requires c κs = search needs
+volume-requires c κs = (c .pre .0, c .pre .1, c .pre .2, c .pre .3)
 
 low-weighed :
     (c : tie.After-struct-known2) →
@@ -47,7 +47,9 @@ add-t15 : tie.Need-add-t15
 add-t15 c = omega (arith, high-weighed c)
 
 returns : tie.Need-returns
-returns c = ap range (sym (stem-ends (c .before .before .volume .ensures) _ _))
+returns c =
+    let v = c .before .before .volume .ensures in
+    ap range (sym (stem-ends (record { low = v .0; high = v .1; most = v .2 }) _ _))
 
 pub stem-in-range-spec : {M : Type 1} → statement M
 stem-in-range-spec =

@@ -1,5 +1,5 @@
--- `stem::volume` meets its contract. The laws of `specs.Law.Stem` give its two ends at either side of 118288000, and bound what is added to
--- the base and taken from it, so that nothing overflows and nothing goes below 0. Assumes nothing.
+-- `biomass::stem::volume` meets its contract. The laws of `specs.Law.Stem` give its two ends at either side of 118288000, and bound what is added to
+-- the base and taken from it, so that nothing overflows and nothing goes below 0.
 use native.Mathlib.Nat.{mul-le-mul}
 use native.Mathlib.Omega.{arith}
 use borrow.Author.Needs.{needs}
@@ -44,7 +44,7 @@ add-t17 : tie.Need-add-t17
 add-t17 c = omega (arith, rise-fits _ _ (c .before .pre))
 
 returns : tie.Need-returns
-returns c = volumes-over _ _ (c .before .pre) (c .if1 .taken)
+returns c = let v = volumes-over _ _ (c .before .pre) (c .if1 .taken) in (v .low, v .high, v .most)
 
 sub-under : tie.Need-sub-under
 sub-under c = search needs
@@ -68,7 +68,7 @@ sub-t20 : tie.Need-sub-t20
 sub-t20 c = omega (arith, lesser-fall-fits _ _ (c .before .pre))
 
 returns-2 : tie.Need-returns-2
-returns-2 c = volumes-under _ _ (c .before .pre) (c .if1 .left)
+returns-2 c = let v = volumes-under _ _ (c .before .pre) (c .if1 .left) in (v .low, v .high, v .most)
 
 pub volume-spec : {M : Type 1} → statement M
 volume-spec =

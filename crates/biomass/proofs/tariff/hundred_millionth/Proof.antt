@@ -1,6 +1,5 @@
 -- `biomass::tariff::hundred_millionth` meets its contract. A negative number −(a + 1) is taken to a, divided, and taken back to −(q + 1); any other is divided
 -- as it stands. Each number on the way is no larger than the one that came in, so it fits, and the machine reads it back as it is.
--- Assumes nothing.
 use Prim.Native.Nat.{ℕ, _/_, _^_, _<_}
 use native.Mathlib.Omega.{arith}
 use native.Mathlib.Nat.{div-le-self, lt-of-le-of-lt, not-suc-le-zero}

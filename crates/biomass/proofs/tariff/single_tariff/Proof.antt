@@ -1,5 +1,4 @@
 -- `biomass::tariff::single_tariff` meets its contract: each test of the code is the definition's, and past them the three routines give the definition's three steps.
-use borrow.Author.Needs.{needs}
 use Prim.Native.Nat.{ℕ, _<_, _^_}
 use mathlib.Core.Path.{_≡_, _∙_, ap}
 use lib.IntN.{ℤ}
@@ -10,23 +9,25 @@ use mir.Facts.{toZ-ofZ}
 use Rattle.biomass.proofs.Small.{local}
 use Rattle.biomass.specs.Whole.{_div_}
 use Rattle.biomass.specs.Tariff.{tariffSum, singleTariff, fromOneToFifty}
-use Rattle.biomass.specs.Law.Report.{checks, goes-on, in-range}
+use Rattle.biomass.specs.Law.Report.{refuses, goes-on, in-range}
 use Rattle.biomass.proofs.tariff.single_tariff.Statement.{statement}
 use Rattle.biomass.proofs.tariff.single_tariff.Tie as tie
 
 within-requires : tie.Need-within-requires
-within-requires c κs = search needs
+within-requires c κs = tt
 
 returns : tie.Need-returns
 unfolding singleTariff
-returns c = search checks
+returns c = refuses _ _ (c .before .within .ensures) (c .if1 .taken)
 
 within-requires-2 : tie.Need-within-requires-2
-within-requires-2 c κs = search needs
+within-requires-2 c κs = tt
 
 returns-2 : tie.Need-returns-2
 unfolding singleTariff
-returns-2 c = search checks
+returns-2 c =
+    let first = c .before .before in
+    goes-on _ _ _ (first .before .within .ensures) (first .if1 .left) (refuses _ _ (c .before .within2 .ensures) (c .if2 .taken))
 
 tariff-sum-requires : tie.Need-tariff-sum-requires
 tariff-sum-requires c κs =
@@ -34,10 +35,10 @@ tariff-sum-requires c κs =
     (in-range (first .before .within .ensures) (first .if1 .left), in-range (c .before .within2 .ensures) (c .if2 .left))
 
 hundred-millionth-requires : tie.Need-hundred-millionth-requires
-hundred-millionth-requires c κs = search needs
+hundred-millionth-requires c κs = tt
 
 one-to-fifty-requires : tie.Need-one-to-fifty-requires
-one-to-fifty-requires c κs = search needs
+one-to-fifty-requires c κs = tt
 
 abbrev back : ℤ → ℤ
 back z = toZ w32 (ofZ w32 z)
@@ -59,8 +60,8 @@ returns-3 c =
     let start = first .before .before in
     let from-sum = read-back (sum .tariff-sum .ok) ∙ sum .tariff-sum .ensures ∙ constants (start .args .cm) (start .args .tenths) (start .fits .c1) (start .fits .c2) (start .fits .c3) (start .fits .c4) in
     let from-quotient = read-back (c .before .hundred-millionth .ok) ∙ c .before .hundred-millionth .ensures ∙ ap (λ (z : ℤ). z div 100000000) from-sum in
-    goes-on _ _ _ _ _ (first .before .within .ensures) (first .if1 .left)
-    (goes-on _ _ _ _ _ (second .before .within2 .ensures) (second .if2 .left) (c .one-to-fifty .ensures ∙ ap fromOneToFifty from-quotient))
+    goes-on _ _ _ (first .before .within .ensures) (first .if1 .left)
+    (goes-on _ _ _ (second .before .within2 .ensures) (second .if2 .left) (c .one-to-fifty .ensures ∙ ap fromOneToFifty from-quotient))
 
 pub single-tariff-spec : {M : Type 1} → statement M
 single-tariff-spec =

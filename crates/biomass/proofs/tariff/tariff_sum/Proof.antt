@@ -1,6 +1,5 @@
 -- `biomass::tariff::tariff_sum` meets its contract: the constants are below 2^31 in size, the diameter is at most 100 and the height at most 600, so every term and
 -- sum is far from the ends of 64 bits, and what the machine reads back is the whole number itself.
--- Assumes nothing.
 use borrow.Author.Needs.{needs}
 use Prim.Native.Nat.{ℕ, _+_, _*_, _^_}
 use lib.IntN.{ℤ, pos, _+ℤ_, _*ℤ_}

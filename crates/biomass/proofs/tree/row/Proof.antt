@@ -1,41 +1,40 @@
 -- `biomass::tree::row` meets its contract: each test of the code is the definition's; a tree is at most 26412187223 mg and there are at most 10^8 hundredths of one, so
 -- the products fit.
-use borrow.Author.Needs.{needs}
 use Prim.Native.Nat.{ℕ, _*_, _^_, _<_, _≤_}
 use native.Mathlib.Omega.{arith}
 use native.Mathlib.Nat.{mul-le-mul, le-trans, lt-of-le-of-lt}
-use mathlib.Core.Path.{_≡_, refl, sym, ap, _∙_}
+use mathlib.Core.Path.{_≡_, _∙_, sym, ap}
 use lib.Dec.{lit<}
 use borrow.Author.Tests.{eq-eqb, ne-eqb}
 use Rattle.biomass.specs.Report.{biomass, gives}
 use Rattle.biomass.specs.Tree.{tree, row}
-use Rattle.biomass.specs.Law.Report.{checks, Inside, in-range, goes-on, stops, follows}
+use Rattle.biomass.specs.Law.Report.{refuses, goes-on, in-range, stops, follows}
 use Rattle.biomass.specs.Law.Tree.{TreeBounds, tree-bounds}
 use Rattle.biomass.proofs.tree.row.Statement.{statement}
 use Rattle.biomass.proofs.tree.row.Tie as tie
 
 within-requires : tie.Need-within-requires
-within-requires c κs = search needs
+within-requires c κs = tt
 
 returns : tie.Need-returns
 unfolding row
-returns c = search checks
+returns c = refuses _ _ (c .before .within .ensures) (c .if1 .taken)
 
 tree-requires : tie.Need-tree-requires
-tree-requires c κs = search needs
+tree-requires c κs = tt
 
 enum-known-m : tie.Need-enum-known-m
-enum-known-m c = search needs
+enum-known-m c = c .match .keys1
 
 enum-known-why : tie.Need-enum-known-why
-enum-known-why c = search needs
+enum-known-why c = c .match .keys2
 
 returns-2 : tie.Need-returns-2
 unfolding row
 returns-2 c =
     let treed = c .before .before .before in
-    goes-on _ _ _ _ _ (treed .before .before .within .ensures) (treed .before .if1 .left)
-    (stops _ _ _ (sym (treed .tree .ensures) ∙ ap biomass (c .before .why .given .1)))
+    goes-on _ _ _ (treed .before .before .within .ensures) (treed .before .if1 .left)
+    (stops _ _ (sym (treed .tree .ensures) ∙ ap biomass (c .before .why .given .1)))
 
 -- past the match on the tree
 tree-gave : (p : tie.After-known-told) → tree (p .before .before .before .before .before .before .args .t) ≡ gives (p .before .m .given .0 .0)
@@ -57,8 +56,8 @@ returns-3 : tie.Need-returns-3
 unfolding row
 returns-3 c =
     let given = c .before .before in
-    goes-on _ _ _ _ _ (given .before .before .before .before .before .within .ensures) (given .before .before .before .before .if1 .left)
-    (follows _ _ _ _ (tree-gave given) (rw (eq-eqb _ _ (c .if2 .taken))))
+    goes-on _ _ _ (given .before .before .before .before .before .within .ensures) (given .before .before .before .before .if1 .left)
+    (follows _ _ (tree-gave given) (rw (eq-eqb _ _ (c .if2 .taken))))
 
 mul-t13 : tie.Need-mul-t13
 mul-t13 c = record { fits = product-fits (number (c .before .before .before)) (bounds (c .before .before .before) .small) }
@@ -70,8 +69,8 @@ returns-4 : tie.Need-returns-4
 unfolding row
 returns-4 c =
     let given = c .before .before .before in
-    goes-on _ _ _ _ _ (given .before .before .before .before .before .within .ensures) (given .before .before .before .before .if1 .left)
-    (follows _ _ _ _ (tree-gave given) (rw (ne-eqb _ _ (c .before .if2 .left))))
+    goes-on _ _ _ (given .before .before .before .before .before .within .ensures) (given .before .before .before .before .if1 .left)
+    (follows _ _ (tree-gave given) (rw (ne-eqb _ _ (c .before .if2 .left))))
 
 pub row-spec : {M : Type 1} → statement M
 row-spec =

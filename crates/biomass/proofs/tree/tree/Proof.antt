@@ -1,8 +1,7 @@
 -- `biomass::tree::tree` meets its contract: what one part declines the tree declines, and where all three give a range, their sums are at most the greatest tree's
 -- (`tree-bounds`), so that they fit.
-use borrow.Author.Needs.{needs}
 use native.Mathlib.Omega.{arith}
-use mathlib.Core.Path.{_≡_, refl, sym, ap, _∙_}
+use mathlib.Core.Path.{_≡_, refl, _∙_, sym, ap}
 use Rattle.biomass.specs.Report.{biomass, gives, refused, refusalNumber}
 use Rattle.biomass.specs.Stem.{stem}
 use Rattle.biomass.specs.Crown.{crown}
@@ -14,54 +13,54 @@ use Rattle.biomass.proofs.tree.tree.Statement.{statement}
 use Rattle.biomass.proofs.tree.tree.Tie as tie
 
 stem-requires : tie.Need-stem-requires
-stem-requires c κs = search needs
+stem-requires c κs = tt
 
 enum-known-m : tie.Need-enum-known-m
-enum-known-m c = search needs
+enum-known-m c = c .match .keys1
 
 enum-known-why : tie.Need-enum-known-why
-enum-known-why c = search needs
+enum-known-why c = c .match .keys2
 
 returns : tie.Need-returns
 unfolding tree
-returns c = stops _ _ _ (sym (c .before .before .before .stem .ensures) ∙ ap biomass (c .before .why .given .1))
+returns c = stops _ _ (sym (c .before .before .before .stem .ensures) ∙ ap biomass (c .before .why .given .1))
 
 stem-gave : (p : tie.After-known-told) → let t = p .before .before .before .before .args .t in stem (t .tariff) (t .d) (t .factor) (t .gravity) ≡ gives (p .before .m .given .0 .0)
 stem-gave p = sym (p .before .before .before .stem .ensures) ∙ ap biomass (p .before .m .given .1)
 
 crown-requires : tie.Need-crown-requires
-crown-requires c κs = search needs
+crown-requires c κs = tt
 
 enum-known-m-2 : tie.Need-enum-known-m-2
-enum-known-m-2 c = search needs
+enum-known-m-2 c = c .match2 .keys1
 
 enum-known-why-2 : tie.Need-enum-known-why-2
-enum-known-why-2 c = search needs
+enum-known-why-2 c = c .match2 .keys2
 
 returns-2 : tie.Need-returns-2
 unfolding tree
 returns-2 c =
     let crowned = c .before .before .before in
-    follows _ _ _ _ (stem-gave (crowned .before)) (stops _ _ _ (sym (crowned .crown .ensures) ∙ ap biomass (c .before .why2 .given .1)))
+    follows _ _ (stem-gave (crowned .before)) (stops _ _ (sym (crowned .crown .ensures) ∙ ap biomass (c .before .why2 .given .1)))
 
 crown-gave : (p : tie.After-known-told3) → let t = p .before .before .before .before .before .before .before .before .args .t in crown (t .crown) (t .d) ≡ gives (p .before .m2 .given .0 .0)
 crown-gave p = sym (p .before .before .before .crown .ensures) ∙ ap biomass (p .before .m2 .given .1)
 
 root-requires : tie.Need-root-requires
-root-requires c κs = search needs
+root-requires c κs = tt
 
 enum-known-m-3 : tie.Need-enum-known-m-3
-enum-known-m-3 c = search needs
+enum-known-m-3 c = c .match3 .keys1
 
 enum-known-why-3 : tie.Need-enum-known-why-3
-enum-known-why-3 c = search needs
+enum-known-why-3 c = c .match3 .keys2
 
 returns-3 : tie.Need-returns-3
 unfolding tree
 returns-3 c =
     let rooted = c .before .before .before in
-    follows _ _ _ _ (stem-gave (rooted .before .before .before .before .before))
-    (follows _ _ _ _ (crown-gave (rooted .before)) (stops _ _ _ (sym (rooted .root .ensures) ∙ ap biomass (c .before .why3 .given .1))))
+    follows _ _ (stem-gave (rooted .before .before .before .before .before))
+    (follows _ _ (crown-gave (rooted .before)) (stops _ _ (sym (rooted .root .ensures) ∙ ap biomass (c .before .why3 .given .1))))
 
 -- where all three parts give a range
 tree-gives : (p : tie.After-known-told5) →
@@ -71,9 +70,9 @@ tree-gives : (p : tie.After-known-told5) →
 unfolding tree
 tree-gives p =
     let rooted = p .before .before .before in
-    follows _ _ _ _ (stem-gave (rooted .before .before .before .before .before))
-    (follows _ _ _ _ (crown-gave (rooted .before))
-    (follows _ _ _ _ (sym (rooted .root .ensures) ∙ ap biomass (p .before .m3 .given .1)) refl))
+    follows _ _ (stem-gave (rooted .before .before .before .before .before))
+    (follows _ _ (crown-gave (rooted .before))
+    (follows _ _ (sym (rooted .root .ensures) ∙ ap biomass (p .before .m3 .given .1)) refl))
 
 bounds : (p : tie.After-known-told5) →
     let crowned = p .before .before .before .before in

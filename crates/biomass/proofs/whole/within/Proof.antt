@@ -1,9 +1,7 @@
-use borrow.Author.Needs.{needs}
+-- `biomass::whole::within` meets its contract: at each `return` the test that led there says which case of `inside` holds.
 use borrow.Author.Tests.{le-leb, lt-leb}
 use Rattle.biomass.proofs.whole.within.Statement.{statement}
 use Rattle.biomass.proofs.whole.within.Tie as tie
-use Rattle.biomass.proofs.whole.within.Reads as reads
-use Rattle.biomass.proofs.whole.within.Lts as lts
 
 returns : tie.Need-returns
 returns c = simp (lt-leb _ _ (c .if1 .taken))

@@ -1,0 +1,226 @@
+//! The proved library against the exact value: the protocol's equations unrounded, as fractions of whole
+//! numbers, with the two powers held between whole numbers.
+use crate::agree::{some, CROWN_GROUP, D, FACTORS, GRAVITIES, HUNDREDTHS, ROOT_GROUP, TARIFF, TREE_RANGES};
+use crate::natural::Natural;
+use crate::random::Random;
+use crate::report::{Report, Tally};
+use crate::{powers, protocol, proved};
+use std::cmp::Ordering::{Equal, Greater, Less};
+
+/// What a tree may lie between its ends, in mg, for the project's gap to keep its limit.
+const WIDEST_TREE: u64 = 54;
+
+/// All exact figures of one tree are counted in parts of this many to the mg: 10^10 of A, 4·10^5 of z,
+/// 10^8 of V, 10^4 of factor times gravity.
+const PARTS: i128 = 4 * 10i128.pow(10 + 5 + 8 + 4);
+
+/// The stem: V = B + A·z, with every div an exact division.
+fn stem(tariff: u64, d: u64, factor: u64, gravity: u64) -> i128 {
+    let [t, d, f, s] = [tariff, d, factor, gravity].map(i128::from);
+    let slope = 315049301 * (1_000_000_000 * t - 138763302);
+    let over = 314159265 * d * d - 118288000 * 400000;
+    let base = 360541 * 10_000_000_000 * t * (10_000_000_000 * 400000);
+    (base + slope * over) * f * s
+}
+
+/// A straight part: (10a + b·d) tenths of a mg.
+fn straight([_, a, b]: [i128; 3], d: u64) -> i128 {
+    (10 * a + b * i128::from(d)) * (PARTS / 10)
+}
+
+/// The crown, with (w + more)·10^-5 in the place of its power.
+fn crown(group: u64, d: u64, more: i128) -> i128 {
+    let row = protocol::crown()[group as usize];
+    if d > 500 {
+        return straight(row, d);
+    }
+    row[0] * (i128::from(powers::crown(d)) + more) * (PARTS / 1_000_000)
+}
+
+/// The root, with (y + more)·10^-5 in the place of its power.
+fn root(group: u64, d: u64, more: i128) -> i128 {
+    let row = protocol::root()[group as usize];
+    if d > 300 {
+        return straight(row, d);
+    }
+    row[0] * (i128::from(powers::root(d)) + more) * (PARTS / 100_000)
+}
+
+pub fn run(report: &mut Report) {
+    the_powers(report);
+    the_parts(report);
+    the_tree(report);
+    the_project(report);
+}
+
+fn the_powers(report: &mut Report) {
+    report.check("comparing powers: equal products, neighbours, and products by chance", |tally| {
+        let mut random = Random::new(19);
+        for _ in 0..20_000 {
+            let [a, b] = [(); 2].map(|()| random.of_any_size(1 << 31).max(2));
+            let [m, n] = [(); 2].map(|()| random.between(1, 40) as u32);
+            let same = [(a, 2 * m), (b, n)];
+            tally.same((a, b, m, n), powers::compare(&same, &[(b, n), (a * a, m)]), Equal);
+            tally.same((a, b, m, n), powers::compare(&same, &[(b, n), (a * a - 1, m)]), Greater);
+            tally.same((a, b, m, n), powers::compare(&same, &[(b, n), (a * a + 1, m)]), Less);
+            let [left, right] = [[(a, m)], [(b, n)]];
+            tally.same((a, b, m, n), powers::compare(&left, &right), powers::compare_whole(&left, &right));
+        }
+    });
+    // By whole numbers alone, on every core: 862 comparisons of numbers of some 90,000 digits.
+    report.check("crown power, every d: w^10000 ≤ 10^25233·d^24767 < (w+1)^10000", |tally| {
+        let all: Vec<u64> = powers::CURVED_CROWN.collect();
+        let cores = std::thread::available_parallelism().map_or(1, |n| n.get());
+        let settle = |&d: &u64| {
+            let w = powers::crown(d);
+            let limit = Natural::power(10, 25233).times(&Natural::power(d, 24767));
+            (d, w, Natural::power(w, 10000) <= limit, Natural::power(w + 1, 10000) > limit)
+        };
+        let settled: Vec<_> = std::thread::scope(|scope| {
+            let shares = all.chunks(all.len().div_ceil(cores));
+            let threads: Vec<_> =
+                shares.map(|share| scope.spawn(move || share.iter().map(settle).collect::<Vec<_>>())).collect();
+            threads.into_iter().flat_map(|thread| thread.join().expect("a share of the diameters")).collect()
+        });
+        for (d, w, not_above, next_above) in settled {
+            tally.holds(not_above, (d, w, "is above the power"));
+            tally.holds(next_above, (d, w, "is not the greatest"));
+        }
+    });
+    report.check("root power, every d: y² ≤ 10^5·d^5 < (y+1)²", |tally| {
+        for d in 70..=300u64 {
+            let (y, limit) = (u128::from(powers::root(d)), 100_000 * u128::from(d).pow(5));
+            tally.holds(y * y <= limit && limit < (y + 1) * (y + 1), (d, y));
+        }
+    });
+}
+
+/// The low is not above the exact figure, nor the high below it.
+fn ends_hold(tally: &mut Tally, operands: impl std::fmt::Debug, ask: impl Fn(u64) -> u64, exact: i128) {
+    let [low, high] = [1, 2].map(|which| i128::from(ask(which)));
+    tally.holds(ask(0) == 0 && low * PARTS <= exact && exact <= high * PARTS, (operands, low, high));
+}
+
+fn the_parts(report: &mut Report) {
+    report.check("stem, low ≤ exact ≤ high", |tally| {
+        for tariff in TARIFF.0..=TARIFF.1 {
+            for d in D.0..=D.1 {
+                for factor in FACTORS {
+                    for gravity in GRAVITIES {
+                        let operands = [tariff, d, factor, gravity];
+                        ends_hold(
+                            tally,
+                            operands,
+                            |which| proved::stem(operands, which),
+                            stem(tariff, d, factor, gravity),
+                        );
+                    }
+                }
+            }
+        }
+    });
+    // Document 01's own test of a fraction r/t, for the fraction that the figure makes of the power.
+    report.check("crown, low ≤ exact ≤ high", |tally| {
+        for group in CROWN_GROUP.0..=CROWN_GROUP.1 {
+            for d in D.0..=D.1 {
+                let ask = |which| proved::crown([group, d], which);
+                if d > 500 {
+                    ends_hold(tally, (group, d), ask, crown(group, d, 0));
+                    continue;
+                }
+                let k = protocol::crown()[group as usize][0] as u64;
+                let stands = |mg: u64| powers::compare(&[(10 * mg, 10000), (10, 24767)], &[(k, 10000), (d, 24767)]);
+                tally.holds(stands(ask(1)) != Greater, (group, d, ask(1), "is above the exact crown"));
+                tally.holds(stands(ask(2)) != Less, (group, d, ask(2), "is below the exact crown"));
+            }
+        }
+    });
+    report.check("root, low ≤ exact ≤ high", |tally| {
+        for group in ROOT_GROUP.0..=ROOT_GROUP.1 {
+            for d in D.0..=D.1 {
+                let ask = |which| proved::root([group, d], which);
+                if d > 300 {
+                    ends_hold(tally, (group, d), ask, root(group, d, 0));
+                    continue;
+                }
+                let b = protocol::root()[group as usize][0] as u128;
+                let exact = b.pow(2) * u128::from(d).pow(5);
+                let square = |mg: u64| u128::from(mg).pow(2) * 100_000;
+                tally.holds(square(ask(1)) <= exact, (group, d, ask(1), "is above the exact root"));
+                tally.holds(square(ask(2)) >= exact, (group, d, ask(2), "is below the exact root"));
+            }
+        }
+    });
+}
+
+fn the_tree(report: &mut Report) {
+    report.check("tree, the gap is at most 54 mg", |tally| {
+        let mut widest = (0, [0; 6]);
+        let mut look = |tally: &mut Tally, operands: [u64; 6]| {
+            let [refusal, low, high] = [0, 1, 2].map(|which| proved::tree(operands, which));
+            tally.holds(refusal == 0 && low < high && high - low <= WIDEST_TREE, (operands, refusal, low, high));
+            widest = widest.max((high - low, operands));
+        };
+        // The stem's gap grows with factor and gravity: all else at their ends, then all by chance.
+        for tariff in TARIFF.0..=TARIFF.1 {
+            for d in D.0..=D.1 {
+                for crown in CROWN_GROUP.0..=CROWN_GROUP.1 {
+                    for root in ROOT_GROUP.0..=ROOT_GROUP.1 {
+                        look(tally, [tariff, d, 200, 100, crown, root]);
+                    }
+                }
+            }
+        }
+        let mut random = Random::new(20);
+        for _ in 0..1_000_000 {
+            look(tally, some(&mut random, TREE_RANGES));
+        }
+        let (gap, [tariff, d, ..]) = widest;
+        tally.remark = format!("; the widest is {gap} mg, at tariff {tariff} and d {d}");
+    });
+}
+
+/// Rows of up to 32 lines: the project's ends, their gap, and the exact value between them.
+fn the_project(report: &mut Report) {
+    report.check("project, equal ends exactly without trees, the gap's limit, low ≤ exact ≤ high", |tally| {
+        let mut random = Random::new(21);
+        for round in 0..20_000 {
+            let lines = random.between(1, 32);
+            let [mut low, mut high, mut trees] = [0; 3];
+            let [mut exact_low, mut exact_high] = [(); 2].map(|()| Natural::of(0));
+            for _ in 0..lines {
+                let n = match round % 4 {
+                    0 => 0,
+                    1 => HUNDREDTHS.1,
+                    _ => random.of_any_size(HUNDREDTHS.1),
+                };
+                let tree = some(&mut random, TREE_RANGES);
+                let [t, d, f, s, c, r] = tree;
+                let row = |which| proved::row([n, t, d, f, s, c, r], which);
+                tally.same((n, tree), row(0), 0);
+                low += row(1);
+                high += row(2);
+                trees += n;
+                // w·10^-5 is not above the power, (w+1)·10^-5 not below; the root's y the same.
+                let add = |sum: &Natural, more| {
+                    let tree = stem(t, d, f, s) + crown(c, d, more) + root(r, d, more);
+                    sum.plus(&Natural::of(tree as u128).times(&Natural::of(n.into())))
+                };
+                exact_low = add(&exact_low, 0);
+                exact_high = add(&exact_high, 1);
+            }
+            let ask = |which| proved::project([low, high, trees], which);
+            let [refusal, low_g, high_g] = [0, 1, 2].map(ask);
+            let operands = (low, high, trees, low_g, high_g);
+            tally.same(operands, refusal, 0);
+            tally.holds((low_g == high_g) == (trees == 0), (operands, "equal exactly without trees"));
+            tally.holds(high_g <= low_g + 3 + trees / 1000, (operands, "the gap's limit"));
+            // The exact value is 11/6000 of the sum, and n counts hundredths.
+            let eleven = Natural::of(11);
+            let whole = Natural::of(600_000).times(&Natural::of(PARTS as u128));
+            let grams = |g: u64| whole.times(&Natural::of(g.into()));
+            tally.holds(grams(low_g) <= exact_low.times(&eleven), (operands, "the low is above the exact value"));
+            tally.holds(exact_high.times(&eleven) <= grams(high_g), (operands, "the high is below the exact value"));
+        }
+    });
+}
