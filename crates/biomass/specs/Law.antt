@@ -1,8 +1,19 @@
 -- What is proved of the definitions, each law once, for this crate's proofs and for the layer above.
+-- The layer above uses:
+--     Exact: row-not-under, row-not-over      the exact row lies from its low to its high, whatever fractions are given; of a tree and its parts too
+--     Exact: row-den, tree-den                and its denominator is above 0
+--     Tree: row-bounds, tree-bounds           how far apart the ends are, and how great they can be; the parts' are stem-bounded, crown-bounded, root-bounded
+--     Mean: mean-gives, mean-is, mean-only    a mean that is given is step 2's d, the only one, and 70 to 1000
+--     Tariff: single-tariff-range, line-tariff-range      a tariff that is given is 1 to 50
+--     Fraction                                sums, shares and the order of fractions
+
+-- numbers: greatest, root and div; differences of naturals
 pub mod Whole
 pub mod Signed
+-- reports: from the code's tests to a report, and a report that gives a figure taken apart
 pub mod Report
 pub mod Gives
+-- the steps
 pub mod Tariff
 pub mod Mean
 pub mod Ends
@@ -12,6 +23,7 @@ pub mod Stem
 pub mod Crown
 pub mod Root
 pub mod Tree
+-- the exact value
 pub mod Fraction
 pub mod StemExact
 pub mod Exact

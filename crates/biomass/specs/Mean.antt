@@ -11,7 +11,8 @@ pub record IsMean (n S d : ℕ) : Type 0 where
   pub not-above : square (2 * d - 1) * n ≤ 400 * S
   pub below : 400 * S < square (2 * d + 1) * n
 
--- the greatest d with the first of the two inequalities. Law.Mean shows that this is the d of step 2, and the only one
+-- The greatest d with the first of the two inequalities. `greatest` tests numbers from 1 on, where 2d − 1 is not cut off. Law.Mean shows that
+-- this is the d of step 2, and the only one
 unfoldable pub meanOf : ℕ → ℕ → ℕ
 meanOf n S = greatest (λ d. leb (square (2 * d - 1) * n) (400 * S)) 1000
 

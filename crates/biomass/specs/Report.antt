@@ -14,7 +14,7 @@ pub data Report (A : Type 0) : Type 0 where
   refused : ℕ → Report A
   gives : A → Report A
 
--- the next report where the test holds, and else the refusal: one check of document 01's lists, in order
+-- One check of document 01's lists: unless the test holds, the refusal n; else what follows
 abbrev pub unless : {A : Type 0} → Bool → ℕ → Report A → Report A
 unless true n r = r
 unless false n r = refused n

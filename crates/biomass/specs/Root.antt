@@ -13,11 +13,17 @@ use Rattle.biomass.specs.declared.units.BiomassRange.{BiomassRange}
 -- Each row: b of Table 5.2.4, then a and b of Table 5.2.5, in mg
 abbrev pub rootTable : List (List ℤ)
 rootTable =
+    -- 0 western red cedar, noble fir, Corsican pine
     (pos 10722 ∷ negℤ (pos 82602857) ∷ pos 4515233 ∷ []) ∷
+    -- 1 Norway spruce
     (pos 11883 ∷ negℤ (pos 91547262) ∷ pos 5004152 ∷ []) ∷
+    -- 2 grand fir, Scots pine, western hemlock
     (pos 15404 ∷ negℤ (pos 118673233) ∷ pos 6486910 ∷ []) ∷
+    -- 3 Douglas fir, Japanese larch, lodgepole pine
     (pos 17326 ∷ negℤ (pos 133480423) ∷ pos 7296300 ∷ []) ∷
+    -- 4 Sitka spruce
     (pos 20454 ∷ negℤ (pos 157578701) ∷ pos 8613559 ∷ []) ∷
+    -- 5 red alder
     (pos 22700 ∷ negℤ (pos 174882004) ∷ pos 9559391 ∷ []) ∷ []
 
 abbrev pub curveB : ℕ → ℤ

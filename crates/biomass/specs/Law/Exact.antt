@@ -2,7 +2,7 @@
 -- fractions not below the powers are given, "Not over the high" whatever fractions not above them. Each div goes down and each high adds 1,
 -- so a low is not above and a high not below the exact division (Law.Fraction); sums and products keep that. Law.StemExact has the stem.
 use Prim.Native.Nat.{ℕ, zero, suc, _+_, _*_, _^_, _≤_, _<_}
-use native.Mathlib.Nat.{mul-le-mul-left}
+use native.Mathlib.Nat.{mul-le-mul-left, mul-pos}
 use native.Mathlib.Omega.{arith}
 use mathlib.Core.Bool.{cond}
 use mathlib.Core.Path.{_≡_, sym, ap, _∙_, subst}
@@ -17,7 +17,7 @@ use Rattle.biomass.specs.Root as Root
 use Rattle.biomass.specs.Root.{rootEnds}
 use Rattle.biomass.specs.Report.{gives}
 use Rattle.biomass.specs.Tree.{tree, row, rowOf}
-use Rattle.biomass.specs.Exact.{Given, value, NotBelowCrown, NotAboveCrown, NotBelowRoot, NotAboveRoot, exactLine, exactCrown, exactRoot, exactTree, exactRow, NotBelow, NotAbove}
+use Rattle.biomass.specs.Exact.{Given, value, NotBelowCrown, NotAboveCrown, NotBelowRoot, NotAboveRoot, exactLine, exactStem, exactCrown, exactRoot, exactTree, exactRow, NotBelow, NotAbove}
 use Rattle.biomass.specs.Law.Signed.{pos-le}
 use Rattle.biomass.specs.Law.Fraction.{≼-trans, ⊕-mono, whole-⊕, floor, ceiling, share-not-under, share-not-over, no-share}
 use Rattle.biomass.specs.Law.Ends.{Bounded, Coefficient, either-side}
@@ -28,6 +28,32 @@ use Rattle.biomass.specs.Law.StemExact.{stem-not-under, stem-not-over}
 use Rattle.biomass.specs.Law.Tree.{tree-gives, parts-bounded, row-gives}
 use Rattle.biomass.specs.declared.units.BiomassRange.{BiomassRange}
 use Rattle.biomass.specs.declared.tree.AverageTree.{AverageTree}
+
+-- ---- denominators are above 0, so that `≼` says of these fractions what it seems to say
+
+module _ (g d : ℕ) (power : Given) where
+  crown-den : 0 < exactCrown g d power .den
+  unfolding exactCrown
+  crown-den =
+      either-side (λ t. 0 < (cond t (whole (Crown.k g) over 10 ⊗ value power) (exactLine (Crown.a g) (Crown.b g) d)) .den) d 500
+      (λ on-curve. omega (arith, power .t-at-least-1)) (λ on-line. lit< tt)
+
+  root-den : 0 < exactRoot g d power .den
+  unfolding exactRoot
+  root-den =
+      either-side (λ t. 0 < (cond t (whole (Root.curveB g) ⊗ value power) (exactLine (Root.lineA g) (Root.lineB g) d)) .den) d 300
+      (λ on-curve. omega (arith, power .t-at-least-1)) (λ on-line. lit< tt)
+
+stem-den : (T d f s : ℕ) → 0 < exactStem T d f s .den
+unfolding exactStem
+stem-den T d f s = lit< tt
+
+pub tree-den : (t : AverageTree) (crownPower rootPower : Given) → 0 < exactTree t crownPower rootPower .den
+tree-den t crownPower rootPower =
+    mul-pos (mul-pos (stem-den (t .tariff) (t .d) (t .factor) (t .gravity)) (crown-den (t .crown) (t .d) crownPower)) (root-den (t .root) (t .d) rootPower)
+
+pub row-den : (N : ℕ) (t : AverageTree) (crownPower rootPower : Given) → 0 < exactRow N t crownPower rootPower .den
+row-den N t crownPower rootPower = mul-pos (lit< tt) (tree-den t crownPower rootPower)
 
 -- ---- the crown and the root
 
