@@ -4,7 +4,8 @@ use mathlib.Core.Bool.{cond}
 use mathlib.Core.List.{List, [], _∷_}
 use lib.Dec.{leb}
 use lib.IntN.{ℤ, pos, negℤ}
-use Rattle.biomass.specs.Whole.{inside, root}
+use Rattle.biomass.specs.Whole.{inside, wholeRoot}
+use Rattle.biomass.specs.Mean.{dInRange}
 use Rattle.biomass.specs.Report.{Report, gives, unless}
 use Rattle.biomass.specs.Ends.{Ends, range, entry, curve, straight}
 use Rattle.biomass.specs.declared.units.BiomassRange.{BiomassRange}
@@ -41,7 +42,7 @@ b g = entry crownTable g 2
 
 -- "w is the greatest whole number with w^10000 ≤ 10^25233·d^24767"
 unfoldable pub w : ℕ → ℕ
-w d = root 10000 (10 ^ 25233 * d ^ 24767)
+w d = wholeRoot 10000 (10 ^ 25233 * d ^ 24767)
 
 -- "For d ≤ 500, .. low = k·w div 10^6, high = k·(w+1) div 10^6 + 1. .. For d > 500, low = (10a + b·d) div 10, high = low + 1."
 -- (Every group, larches too: docs/DECISIONS.md, decision 1.)
@@ -51,5 +52,5 @@ crownEnds g d = cond (leb d 500) (curve (k g) (w d) (10 ^ 6)) (straight (a g) (b
 unfoldable pub crown : ℕ → ℕ → Report BiomassRange
 crown g d =
     unless (inside 0 g 7) 6
-    (unless (inside 70 d 1000) 6
+    (unless (dInRange d) 6
     (gives (range (crownEnds g d))))

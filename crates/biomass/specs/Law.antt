@@ -5,6 +5,7 @@
 --     Tree: row-bounds, tree-bounds           how far apart the ends are, and how great they can be; the parts' are stem-bounded, crown-bounded, root-bounded
 --     Mean: mean-gives, mean-is, mean-only    a mean that is given is step 2's d, the only one, and 70 to 1000
 --     Tariff: single-tariff-range, line-tariff-range      a tariff that is given is 1 to 50
+--     Answers                                 operands in their ranges are answered, and with what
 --     Fraction                                sums, shares and the order of fractions
 
 -- numbers: greatest, root and div; differences of naturals
@@ -23,6 +24,7 @@ pub mod Stem
 pub mod Crown
 pub mod Root
 pub mod Tree
+pub mod Answers
 -- the exact value
 pub mod Fraction
 pub mod StemExact

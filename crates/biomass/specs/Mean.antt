@@ -1,5 +1,6 @@
 -- Step 2, the mean diameter d, in tenths of a cm.
 use Prim.Native.Nat.{ℕ, _+_, _-_, _*_, _≤_, _<_}
+use mathlib.Core.Bool.{Bool}
 use lib.Dec.{leb}
 use Rattle.biomass.specs.Whole.{inside, square, greatest}
 use Rattle.biomass.specs.Report.{Report, gives, unless}
@@ -15,6 +16,10 @@ pub record IsMean (n S d : ℕ) : Type 0 where
 -- this is the d of step 2, and the only one
 unfoldable pub meanOf : ℕ → ℕ → ℕ
 meanOf n S = greatest (λ d. leb (square (2 * d - 1) * n) (400 * S)) 1000
+
+-- "d 70 to 1000"
+abbrev pub dInRange : ℕ → Bool
+dInRange d = inside 70 d 1000
 
 -- "n 1 to 1,000,000; S 49n to 10000n"
 unfoldable pub mean : ℕ → ℕ → Report ℕ

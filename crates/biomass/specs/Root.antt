@@ -4,7 +4,8 @@ use mathlib.Core.Bool.{cond}
 use mathlib.Core.List.{List, [], _∷_}
 use lib.Dec.{leb}
 use lib.IntN.{ℤ, pos, negℤ}
-use Rattle.biomass.specs.Whole.{inside, root as wholeRoot}
+use Rattle.biomass.specs.Whole.{inside, wholeRoot}
+use Rattle.biomass.specs.Mean.{dInRange}
 use Rattle.biomass.specs.Report.{Report, gives, unless}
 use Rattle.biomass.specs.Ends.{Ends, range, entry, curve, straight}
 use Rattle.biomass.specs.declared.units.BiomassRange.{BiomassRange}
@@ -46,5 +47,5 @@ rootEnds g d = cond (leb d 300) (curve (curveB g) (y d) (10 ^ 5)) (straight (lin
 unfoldable pub root : ℕ → ℕ → Report BiomassRange
 root g d =
     unless (inside 0 g 5) 6
-    (unless (inside 70 d 1000) 6
+    (unless (dInRange d) 6
     (gives (range (rootEnds g d))))

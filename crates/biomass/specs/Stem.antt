@@ -4,6 +4,7 @@ use mathlib.Core.Bool.{cond}
 use lib.IntN.{ℤ, pos, _+ℤ_, _-ℤ_, _*ℤ_}
 use lib.Signed.{leZ}
 use Rattle.biomass.specs.Whole.{_div_, inside, square}
+use Rattle.biomass.specs.Mean.{dInRange}
 use Rattle.biomass.specs.Report.{Report, gives, unless}
 use Rattle.biomass.specs.Ends.{Ends, range}
 use Rattle.biomass.specs.declared.units.BiomassRange.{BiomassRange}
@@ -42,7 +43,7 @@ stemEnds T d f s =
 unfoldable pub stem : ℕ → ℕ → ℕ → ℕ → Report BiomassRange
 stem T d f s =
     unless (inside 1 T 50) 6
-    (unless (inside 70 d 1000) 6
+    (unless (dInRange d) 6
     (unless (inside 100 f 200) 6
     (unless (inside 1 s 100) 6
     (gives (range (stemEnds T d f s))))))

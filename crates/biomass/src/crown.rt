@@ -4,6 +4,8 @@ use super::answer::Refusal;
 use super::part::on_curve;
 use super::part::on_line;
 use super::units::BiomassRange;
+use super::units::GREATEST_D;
+use super::units::LEAST_D;
 use super::whole::within;
 ghost use mathlib.Core.Path.{_≡_};
 ghost use Prim.Native.Nat.{_≤_};
@@ -488,7 +490,7 @@ pub fn crown(group: u64, d: u64) -> Biomass
     if !within(0, group, 7) {
         return Biomass::Refused(Refusal::Operand);
     }
-    if !within(70, d, 1000) {
+    if !within(LEAST_D, d, GREATEST_D) {
         return Biomass::Refused(Refusal::Operand);
     }
     Biomass::Is(crown_in_range(group, d))

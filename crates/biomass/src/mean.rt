@@ -1,6 +1,8 @@
 // Step 2: the mean diameter.
 use super::answer::Count;
 use super::answer::Refusal;
+use super::units::GREATEST_D;
+use super::units::LEAST_D;
 use super::whole::within;
 ghost use mathlib.Core.Path.{_≡_};
 ghost use Prim.Native.Nat.{_*_};
@@ -13,8 +15,8 @@ fn mean_of(n: u64, squares: u64) -> u64
     requires { ⌜ Inside 1 n 1000000 × Inside (49 * n) squares (10000 * n) ⌝ }
     ensures { λ r. ⌜ r ≡ meanOf n squares ⌝ }
 {
-    let mut low: u64 = 70;
-    let mut above: u64 = 1001;
+    let mut low = LEAST_D;
+    let mut above = GREATEST_D + 1;
     while 1 < above - low {
         let middle = low + (above - low) / 2;
         let side = 2 * middle - 1;

@@ -11,6 +11,9 @@ ghost use Prim.Native.Nat.{_≤_};
 ghost use Rattle.biomass.specs.Report.{carbon};
 ghost use Rattle.biomass.specs.Project.{project, dioxide, greatestSum};
 
+// The greatest sum of milligrams whose elevenfold is within 64 bits.
+const GREATEST_SUM: u64 = 1_676_976_733_973_595_601;
+
 // Whole grams of carbon dioxide in so much biomass: half of it is carbon, and a gram of carbon is 11/3 of dioxide.
 fn dioxide(biomass: Milligrams) -> Grams
     requires { ⌜ biomass .0 ≤ greatestSum ⌝ }
@@ -23,10 +26,10 @@ fn dioxide(biomass: Milligrams) -> Grams
 pub fn project(sums: BiomassRange, trees: u64) -> Carbon
     ensures { λ r. ⌜ carbon r ≡ project sums trees ⌝ }
 {
-    if !within(0, sums.low.0, 1_676_976_733_973_595_601) {
+    if !within(0, sums.low.0, GREATEST_SUM) {
         return Carbon::Refused(Refusal::Operand);
     }
-    if !within(0, sums.high.0, 1_676_976_733_973_595_601) {
+    if !within(0, sums.high.0, GREATEST_SUM) {
         return Carbon::Refused(Refusal::Operand);
     }
     let low = dioxide(sums.low);

@@ -2,6 +2,8 @@
 use super::answer::Biomass;
 use super::answer::Refusal;
 use super::units::BiomassRange;
+use super::units::GREATEST_D;
+use super::units::LEAST_D;
 use super::units::Milligrams;
 use super::whole::within;
 ghost use mathlib.Core.Path.{_≡_};
@@ -10,6 +12,7 @@ ghost use lib.IntN.{pos};
 ghost use Rattle.biomass.specs.Report.{biomass};
 ghost use Rattle.biomass.specs.Ends.{range};
 ghost use Rattle.biomass.specs.Stem.{stem, stemEnds, VL, VH};
+ghost use Rattle.biomass.specs.Law.Stem.{InRange};
 
 // The merchantable volume between two ends, in document 01's unit for VL and VH.
 struct VolumeEnds {
@@ -19,7 +22,7 @@ struct VolumeEnds {
 
 // Equation 5. Below 0.118288 m² of basal area the slope counts against the volume, so there the greater slope gives the low.
 fn volume(tariff: u64, d: u64) -> VolumeEnds
-    requires { ⌜ (1 ≤ tariff) × (tariff ≤ 50) × (70 ≤ d) × (d ≤ 1000) ⌝ }
+    requires { ⌜ InRange tariff d ⌝ }
     ensures { λ r. ⌜ (VL tariff d ≡ pos (r .low)) × (VH tariff d ≡ pos (r .high)) × (r .high ≤ 1228217028537058651) ⌝ }
 {
     let area = 314_159_265 * (d * d) / 400_000;
@@ -41,7 +44,7 @@ fn volume(tariff: u64, d: u64) -> VolumeEnds
 
 // The stem's biomass in range: volume times factor times gravity.
 fn stem_in_range(tariff: u64, d: u64, factor: u64, gravity: u64) -> BiomassRange
-    requires { ⌜ (1 ≤ tariff) × (tariff ≤ 50) × (70 ≤ d) × (d ≤ 1000) × (factor ≤ 200) × (gravity ≤ 100) ⌝ }
+    requires { ⌜ InRange tariff d × (factor ≤ 200) × (gravity ≤ 100) ⌝ }
     ensures { λ r. ⌜ r ≡ range (stemEnds tariff d factor gravity) ⌝ }
 {
     let v = volume(tariff, d);
@@ -60,7 +63,7 @@ pub fn stem(tariff: u64, d: u64, factor: u64, gravity: u64) -> Biomass
     if !within(1, tariff, 50) {
         return Biomass::Refused(Refusal::Operand);
     }
-    if !within(70, d, 1000) {
+    if !within(LEAST_D, d, GREATEST_D) {
         return Biomass::Refused(Refusal::Operand);
     }
     if !within(100, factor, 200) {

@@ -1,6 +1,6 @@
 // Whole-number helpers that several figures share.
 ghost use mathlib.Core.Path.{_≡_};
-ghost use Rattle.biomass.specs.Whole.{inside, root};
+ghost use Rattle.biomass.specs.Whole.{inside, wholeRoot};
 
 // Whether x is from lo to hi, ends included.
 pub(crate) fn within(lo: u64, x: u64, hi: u64) -> bool
@@ -14,7 +14,7 @@ pub(crate) fn within(lo: u64, x: u64, hi: u64) -> bool
 
 // The greatest number whose square is not above x, by halving the interval that holds it.
 pub(crate) fn square_root(x: u64) -> u64
-    ensures { λ r. ⌜ r ≡ root 2 x ⌝ }
+    ensures { λ r. ⌜ r ≡ wholeRoot 2 x ⌝ }
 {
     let mut low: u64 = 0;
     let mut above: u64 = 0x1_0000_0000;

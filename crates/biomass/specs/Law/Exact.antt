@@ -139,19 +139,21 @@ module _ (t : AverageTree) (m : BiomassRange) (e : tree t ≡ gives m) (crownPow
   pub tree-not-under : NotBelow t crownPower rootPower → whole (pos (m .low .0)) ≼ exactTree t crownPower rootPower
   tree-not-under n =
       let g = tree-gives t m e in
-      let b = parts-bounded g in
-      let on-stem = stem-not-under (t .tariff) (t .d) (t .factor) (t .gravity) (g .tariff .least) (g .tariff .most) (g .d .least) (g .d .most) in
-      let on-crown = crown-not-under (t .crown) (t .d) crownPower (g .crown .most) (n .on-crown) in
-      let on-root = root-not-under (t .root) (t .d) rootPower (g .root .most) (n .on-root) in
+      let o = g .operands in
+      let b = parts-bounded o in
+      let on-stem = stem-not-under (t .tariff) (t .d) (t .factor) (t .gravity) (o .tariff .least) (o .tariff .most) (o .d .least) (o .d .most) in
+      let on-crown = crown-not-under (t .crown) (t .d) crownPower (o .crown .most) (n .on-crown) in
+      let on-root = root-not-under (t .root) (t .d) rootPower (o .root .most) (n .on-root) in
       rw (g .is) (sum-not-under (b .on-stem) (b .on-crown) (b .on-root) on-stem on-crown on-root)
 
   pub tree-not-over : NotAbove t crownPower rootPower → exactTree t crownPower rootPower ≼ whole (pos (m .high .0))
   tree-not-over n =
       let g = tree-gives t m e in
-      let b = parts-bounded g in
-      let on-stem = stem-not-over (t .tariff) (t .d) (t .factor) (t .gravity) (g .tariff .least) (g .tariff .most) (g .d .least) (g .d .most) in
-      let on-crown = crown-not-over (t .crown) (t .d) crownPower (g .crown .most) (n .on-crown) in
-      let on-root = root-not-over (t .root) (t .d) rootPower (g .root .most) (n .on-root) in
+      let o = g .operands in
+      let b = parts-bounded o in
+      let on-stem = stem-not-over (t .tariff) (t .d) (t .factor) (t .gravity) (o .tariff .least) (o .tariff .most) (o .d .least) (o .d .most) in
+      let on-crown = crown-not-over (t .crown) (t .d) crownPower (o .crown .most) (n .on-crown) in
+      let on-root = root-not-over (t .root) (t .d) rootPower (o .root .most) (n .on-root) in
       rw (g .is) (sum-not-over (b .on-stem) (b .on-crown) (b .on-root) on-stem on-crown on-root)
 
 -- ---- one row

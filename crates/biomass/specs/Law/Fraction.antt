@@ -1,4 +1,4 @@
--- Laws of fractions: their order is one, and sums, exact divisions and products by what is not below 0 keep it. A comparison of two
+-- Laws of fractions: their order is one, and sums and products by what is not below 0 keep it. A comparison of two
 -- fractions is one of naturals (`to-nat`, `from-nat`), numerators taken apart as plus − minus; those are proved by multiplying out.
 -- A denominator of a sum, a product or an exact division is the product of two, so `mul-pos` of ℕ says that it is above 0.
 use Prim.Native.Nat.{ℕ, _+_, _*_, _/_, _≤_, _<_, zero-le}
@@ -31,9 +31,6 @@ pub ≼-trans : {x y z : Fraction} → 0 < y .den → x ≼ y → y ≼ z → x 
     let h′ = mul-le-mul-left (z .den) (to-nat h) in
     let k′ = mul-le-mul-left (x .den) (to-nat k) in
     from-nat (le-of-mul-le-mul-left {k = y .den} (omega arith) some)
-
-pub over-mono : {x y : Fraction} (m : ℕ) → x ≼ y → x over m ≼ y over m
-over-mono m h = let h′ = mul-le-mul-left m (to-nat h) in from-nat (omega arith)
 
 -- two comparisons with the same denominators, added
 added : (a a′ b b′ u u′ v v′ m n : ℕ) → a * m + u′ * n ≤ a′ * n + u * m → b * m + v′ * n ≤ b′ * n + v * m

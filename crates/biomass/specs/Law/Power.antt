@@ -9,7 +9,7 @@ use native.Mathlib.Nat.{pow-zero, pow-suc, pow-lt-pow-left, pow-le-pow-left, le-
 use native.Mathlib.Omega.{arith}
 use lib.Dec.{lit<, lit≤}
 use lib.Pow.{pow-add}
-use Rattle.biomass.specs.Whole.{root}
+use Rattle.biomass.specs.Whole.{wholeRoot}
 use Rattle.biomass.specs.Crown.{w}
 use Rattle.biomass.specs.Root.{y}
 use Rattle.biomass.specs.Exact.{Given, NotBelowCrown, NotAboveCrown, NotBelowRoot, NotAboveRoot}
@@ -40,19 +40,19 @@ module _ (m c e : ℕ) (positive : 0 < m) (five : c + e ≡ 5 * m) where
   tens r = rw (mul-pow, pow-mul 10 5 m, ← five, pow-add) (omega arith)
 
   -- a fraction r/t that is not below the power, in tenths of d, is not under the root in units of 10^-5
-  not-under : (d r t : ℕ) → t ^ m * d ^ e ≤ r ^ m * 10 ^ e → root m (10 ^ c * d ^ e) * t ≤ 10 ^ 5 * r
+  not-under : (d r t : ℕ) → t ^ m * d ^ e ≤ r ^ m * 10 ^ e → wholeRoot m (10 ^ c * d ^ e) * t ≤ 10 ^ 5 * r
   not-under d r t h =
-      le-of-pow-le positive (rw (mul-pow (root m (10 ^ c * d ^ e)) t m, tens r)
+      le-of-pow-le positive (rw (mul-pow (wholeRoot m (10 ^ c * d ^ e)) t m, tens r)
       (omega (arith, mul-le-mul-right (t ^ m) (root-not-above m (10 ^ c * d ^ e) positive), mul-le-mul-left (10 ^ c) h)))
 
   -- and one that is not above it is not over the root and 1
-  not-over : (d r t : ℕ) → r ^ m * 10 ^ e ≤ t ^ m * d ^ e → 10 ^ 5 * r ≤ (root m (10 ^ c * d ^ e) + 1) * t
+  not-over : (d r t : ℕ) → r ^ m * 10 ^ e ≤ t ^ m * d ^ e → 10 ^ 5 * r ≤ (wholeRoot m (10 ^ c * d ^ e) + 1) * t
   not-over d r t h =
-      le-of-pow-le positive (rw (mul-pow (root m (10 ^ c * d ^ e) + 1) t m, tens r)
+      le-of-pow-le positive (rw (mul-pow (wholeRoot m (10 ^ c * d ^ e) + 1) t m, tens r)
       (omega (arith, mul-le-mul-right (t ^ m) (root-below m (10 ^ c * d ^ e) positive), mul-le-mul-left (10 ^ c) h)))
 
   -- the root rises with d
-  rises : {d d′ : ℕ} → d ≤ d′ → root m (10 ^ c * d ^ e) ≤ root m (10 ^ c * d′ ^ e)
+  rises : {d d′ : ℕ} → d ≤ d′ → wholeRoot m (10 ^ c * d ^ e) ≤ wholeRoot m (10 ^ c * d′ ^ e)
   rises h = root-mono m positive (mul-le-mul-left (10 ^ c) (pow-le-pow-left h e))
 
 -- ---- w

@@ -10,7 +10,7 @@ use native.Mathlib.Omega.{arith}
 use lib.Dec.{leb, ltb}
 use lib.Pow.{pow-add, pow-pos}
 use borrow.Author.Tests.{ltb-true}
-use Rattle.biomass.specs.Whole.{root}
+use Rattle.biomass.specs.Whole.{wholeRoot}
 use Rattle.biomass.specs.Law.Whole.{root-is}
 
 -- ---- scaled numbers
@@ -151,7 +151,7 @@ module _ (bits : ℕ) where
 
   -- what passes the test is the root
   pub root-tested : (m c e : ℕ) → 0 < m → m < 2 ^ bits → c < 2 ^ bits → e < 2 ^ bits → (d x : ℕ)
-      → tested bits m e (near bits 0 10 c) (near bits 1 10 c) d x ≡ true → root m (10 ^ c * d ^ e) ≡ x
+      → tested bits m e (near bits 0 10 c) (near bits 1 10 c) d x ≡ true → wholeRoot m (10 ^ c * d ^ e) ≡ x
   unfolding tested
   root-tested m c e positive hm hc he d x t =
       root-is m (10 ^ c * d ^ e) x positive

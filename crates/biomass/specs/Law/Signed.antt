@@ -107,19 +107,10 @@ le-to {a = negsuc a} {b = negsuc b} d e h = omega (arith, leb→le b a (h .le))
 pub pos-le : {m n : ℕ} → m ≤ n → (pos m) ≤ℤ (pos n)
 pos-le {m} {n} h = record { le = le→leb m n h }
 
-pub le-pos : {m n : ℕ} → (pos m) ≤ℤ (pos n) → m ≤ n
-le-pos {m} {n} h = leb→le m n (h .le)
-
 -- what is not below 0 is a natural
 pub not-below-zero : {z : ℤ} → (pos 0) ≤ℤ z → Diff z (plus z) 0
 not-below-zero {z = pos n} h = parts (pos n)
 not-below-zero {z = negsuc n} h = absurd (h .le)
-
-pub ≤ℤ-trans : {a b c : ℤ} → a ≤ℤ b → b ≤ℤ c → a ≤ℤ c
-≤ℤ-trans {a} {b} {c} h k =
-    let h′ : plus a + minus b ≤ plus b + minus a = le-to (parts a) (parts b) h in
-    let k′ : plus b + minus c ≤ plus c + minus b = le-to (parts b) (parts c) k in
-    le-from (parts a) (parts c) (omega arith)
 
 pub ≤ℤ-of-lt : {a b : ℤ} → a <ℤ b → a ≤ℤ b
 ≤ℤ-of-lt {a = pos a} {b = pos b} h = pos-le (le-of-lt (ltb→lt a b (h .lt)))

@@ -21,15 +21,24 @@ use Rattle.biomass.specs.declared.tree.AverageTree.{AverageTree}
 
 -- ---- one tree
 
--- The operands are in their ranges, and the ends are those of the three parts, added
-pub record TreeGives (t : AverageTree) (m : BiomassRange) : Type 0 where
+-- All that a tree is worked from, in its ranges
+pub record Operands (t : AverageTree) : Type 0 where
   pub tariff : Inside 1 (t .tariff) 50
   pub d : Inside 70 (t .d) 1000
   pub factor : Inside 100 (t .factor) 200
   pub gravity : Inside 1 (t .gravity) 100
   pub crown : Inside 0 (t .crown) 7
   pub root : Inside 0 (t .root) 5
-  pub is : m ≡ added (range (stemEnds (t .tariff) (t .d) (t .factor) (t .gravity))) (range (crownEnds (t .crown) (t .d))) (range (rootEnds (t .root) (t .d)))
+
+-- The ends of its three parts, added
+abbrev pub treeOf : AverageTree → BiomassRange
+treeOf t =
+    added (range (stemEnds (t .tariff) (t .d) (t .factor) (t .gravity))) (range (crownEnds (t .crown) (t .d))) (range (rootEnds (t .root) (t .d)))
+
+-- A tree is answered where its operands are in their ranges (Law.Answers), and only there
+pub record TreeGives (t : AverageTree) (m : BiomassRange) : Type 0 where
+  pub operands : Operands t
+  pub is : m ≡ treeOf t
 
 pub tree-gives : (t : AverageTree) (m : BiomassRange) → tree t ≡ gives m → TreeGives t m
 unfolding tree stem crown root
@@ -46,12 +55,15 @@ tree-gives t m e =
     let root-group = passed 0 (t .root) 5 6 _ (on-root .gave) in
     let root-d = passed 70 (t .d) 1000 6 _ (root-group .next) in
     record {
-      tariff = tariff .in-range;
-      d = d .in-range;
-      factor = factor .in-range;
-      gravity = gravity .in-range;
-      crown = crown-group .in-range;
-      root = root-group .in-range;
+      operands =
+          record {
+            tariff = tariff .in-range;
+            d = d .in-range;
+            factor = factor .in-range;
+            gravity = gravity .in-range;
+            crown = crown-group .in-range;
+            root = root-group .in-range;
+          };
       is = cc;
     }
 
@@ -61,7 +73,7 @@ pub record PartsBounded (t : AverageTree) : Type 0 where
   pub on-crown : Bounded (crownEnds (t .crown) (t .d)) 2 1066789553
   pub on-root : Bounded (rootEnds (t .root) (t .d)) 2 781057097
 
-pub parts-bounded : {t : AverageTree} {m : BiomassRange} → TreeGives t m → PartsBounded t
+pub parts-bounded : {t : AverageTree} → Operands t → PartsBounded t
 parts-bounded {t} g =
     record {
       on-stem =
@@ -80,7 +92,7 @@ pub record TreeBounds (m : BiomassRange) : Type 0 where
 pub tree-bounds : (t : AverageTree) (m : BiomassRange) → tree t ≡ gives m → TreeBounds m
 tree-bounds t m e =
     let g = tree-gives t m e in
-    let b = parts-bounded g in
+    let b = parts-bounded (g .operands) in
     subst TreeBounds (sym (g .is)) (record { ordered = omega arith; near = omega arith; small = omega arith })
 
 -- ---- one row

@@ -1,4 +1,4 @@
--- Laws of `greatest`, of `root` and of `div`.
+-- Laws of `greatest`, of `wholeRoot` and of `div`.
 -- `greatest` is the one number that passes with none above it passing. A root is the one r with r ^ k ≤ x < (r + 1) ^ k, because powers
 -- rise with their base. `div` never goes above, and leaves less than one divisor, at either sign.
 use mathlib.Core.Path.{_≡_, refl, ap, _∙_}
@@ -11,7 +11,7 @@ use lib.Dec.{lit<, leb, le→leb, lt→ltb}
 use lib.IntN.{ℤ, pos, negsuc, negℤ, sucℤ, _+ℤ_, _*ℤ_, +ℤ-one}
 use lib.Signed.{_≤ℤ_, _<ℤ_, leZ-yes, ltZ-yes}
 use borrow.Author.Tests.{leb-true, le-leb, lt-leb}
-use Rattle.biomass.specs.Whole.{_div_, greatest, root}
+use Rattle.biomass.specs.Whole.{_div_, greatest, wholeRoot}
 
 -- ---- greatest
 
@@ -56,13 +56,13 @@ le-pow-self (suc r) zero h = absurd (not-suc-le-zero h)
 le-pow-self (suc r) (suc k) h = rw pow-succ' (le-mul-of-pos-right (suc r) (one-le-pow k (suc r) (suc-le-suc zero-le)))
 
 -- a number whose power is not above x is not above the root
-pub le-root : (k x n : ℕ) → 0 < k → n ^ k ≤ x → n ≤ root k x
-unfolding root
+pub le-root : (k x n : ℕ) → 0 < k → n ^ k ≤ x → n ≤ wholeRoot k x
+unfolding wholeRoot
 le-root k x n h le = le-greatest (λ r. leb (r ^ k) x) x n (le-trans (le-pow-self n k h) le) (le-leb (n ^ k) x le)
 
 -- the root is the r between whose power and the next one's x lies
-pub root-is : (k x r : ℕ) → 0 < k → r ^ k ≤ x → x < (r + 1) ^ k → root k x ≡ r
-unfolding root
+pub root-is : (k x r : ℕ) → 0 < k → r ^ k ≤ x → x < (r + 1) ^ k → wholeRoot k x ≡ r
+unfolding wholeRoot
 root-is k x r h le lt =
     greatest-is (λ n. leb (n ^ k) x) x r (le-trans (le-pow-self r k h) le) (le-leb (r ^ k) x le)
     (λ n above up. lt-leb (n ^ k) x (lt-of-lt-of-le lt (pow-le-pow-left (omega arith) k)))
@@ -71,7 +71,7 @@ pub pow-two : (n : ℕ) → n ^ 2 ≡ n * n
 pow-two n = pow-suc n 1 ∙ ap (λ (k : ℕ). k * n) (pow-suc n 0 ∙ ap (λ (k : ℕ). k * n) (pow-zero n) ∙ one-mul n)
 
 -- the square root, between two squares
-pub square-root-is : (x r : ℕ) → r * r ≤ x → x < (r + 1) * (r + 1) → root 2 x ≡ r
+pub square-root-is : (x r : ℕ) → r * r ≤ x → x < (r + 1) * (r + 1) → wholeRoot 2 x ≡ r
 square-root-is x r le lt = root-is 2 x r (lit< tt) (rw pow-two le) (rw pow-two lt)
 
 -- so that 0 passes the root's test
@@ -80,16 +80,16 @@ zero-pow-le zero h = absurd (not-suc-le-zero h)
 zero-pow-le (suc k) h = rw (pow-suc, mul-zero) zero-le
 
 -- and the root does lie so
-pub root-not-above : (k x : ℕ) → 0 < k → root k x ^ k ≤ x
-unfolding root
-root-not-above k x h = leb-true (root k x ^ k) x (greatest-passes (λ r. leb (r ^ k) x) x (le-leb (0 ^ k) x (zero-pow-le k h)))
+pub root-not-above : (k x : ℕ) → 0 < k → wholeRoot k x ^ k ≤ x
+unfolding wholeRoot
+root-not-above k x h = leb-true (wholeRoot k x ^ k) x (greatest-passes (λ r. leb (r ^ k) x) x (le-leb (0 ^ k) x (zero-pow-le k h)))
 
-pub root-below : (k x : ℕ) → 0 < k → x < (root k x + 1) ^ k
-root-below k x h = lt-of-not-le (λ le. let up : root k x + 1 ≤ root k x = le-root k x (root k x + 1) h le in omega arith)
+pub root-below : (k x : ℕ) → 0 < k → x < (wholeRoot k x + 1) ^ k
+root-below k x h = lt-of-not-le (λ le. let up : wholeRoot k x + 1 ≤ wholeRoot k x = le-root k x (wholeRoot k x + 1) h le in omega arith)
 
 -- a greater number's root is no lesser
-pub root-mono : {x y : ℕ} (k : ℕ) → 0 < k → x ≤ y → root k x ≤ root k y
-root-mono {x} {y} k h le = le-root k y (root k x) h (le-trans (root-not-above k x h) le)
+pub root-mono : {x y : ℕ} (k : ℕ) → 0 < k → x ≤ y → wholeRoot k x ≤ wholeRoot k y
+root-mono {x} {y} k h le = le-root k y (wholeRoot k x) h (le-trans (root-not-above k x h) le)
 
 -- ---- div
 

@@ -24,6 +24,9 @@ square-fits h = lt-of-le-of-lt (mul-le-mul h h) (lit< tt)
 product-fits : {x n : ℕ} → x ≤ 2001 → n ≤ 1000000 → x * x * n < 2 ^ 64
 product-fits h k = lt-of-le-of-lt (mul-le-mul (mul-le-mul h h) k) (lit< tt)
 
+add-above : tie.Need-add-above Inv-loop μ-loop
+add-above c = omega arith
+
 loop-holds : tie.Need-loop-holds Inv-loop μ-loop
 loop-holds c = (
   omega arith,
@@ -85,6 +88,7 @@ mean-of-spec =
     (tie.spec
     Inv-loop
     μ-loop
+    add-above
     loop-holds
     sub-loop
     sub-middle

@@ -4,7 +4,7 @@ use Prim.Native.Nat.{ℕ, _*_, _^_, _≤_, _<_}
 use native.Mathlib.Nat.{mul-le-mul, mul-le-mul-left, pow-suc, lt-of-le-of-lt}
 use mathlib.Core.Path.{_≡_, _∙_, sym, ap}
 use lib.Dec.{T, ltb, ltb→lt}
-use Rattle.biomass.specs.Whole.{root}
+use Rattle.biomass.specs.Whole.{wholeRoot}
 use Rattle.biomass.specs.Root.{y}
 use Rattle.biomass.specs.Law.Whole.{pow-two}
 use Rattle.biomass.proofs.root.root_power.Statement.{statement}
@@ -50,7 +50,7 @@ square-root-requires c κs = tt
 
 returns : tie.Need-returns
 unfolding y
-returns c = c .square-root .ensures ∙ ap (λ (x : ℕ). root 2 (100000 * x)) (fifth (c .before .args .d))
+returns c = c .square-root .ensures ∙ ap (λ (x : ℕ). wholeRoot 2 (100000 * x)) (fifth (c .before .args .d))
 
 pub root-power-spec : {M : Type 1} → statement M
 root-power-spec =

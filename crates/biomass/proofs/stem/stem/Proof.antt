@@ -50,7 +50,7 @@ stem-in-range-requires c κs =
     let first = second .before .before in
     let tariff = in-range (first .before .within .ensures) (first .if1 .left) in
     let d = in-range (second .before .within2 .ensures) (second .if2 .left) in
-    (tariff .least, tariff .most, d .least, d .most, in-range (third .before .within3 .ensures) (third .if3 .left) .most, in-range (c .before .within4 .ensures) (c .if4 .left) .most)
+    ((tariff .least, tariff .most, d .least, d .most), in-range (third .before .within3 .ensures) (third .if3 .left) .most, in-range (c .before .within4 .ensures) (c .if4 .left) .most)
 
 returns-5 : tie.Need-returns-5
 unfolding stem

@@ -10,7 +10,7 @@ use Rattle.biomass.proofs.stem.stem_in_range.Statement.{statement}
 use Rattle.biomass.proofs.stem.stem_in_range.Tie as tie
 
 volume-requires : tie.Need-volume-requires
-volume-requires c κs = (c .pre .0, c .pre .1, c .pre .2, c .pre .3)
+volume-requires c κs = c .pre .0
 
 low-weighed :
     (c : tie.After-struct-known2) →
