@@ -1,5 +1,4 @@
 -- `biomass::crown::crown_in_range` meets its contract: the row read from the table is the definition's, and the form that the diameter picks is the definition's too.
-use borrow.Author.Needs.{needs}
 use Prim.Native.Nat.{ℕ}
 use native.Mathlib.Omega.{arith}
 use mathlib.Core.Path.{_∙_, ap₂, sym}
@@ -16,13 +15,13 @@ use Rattle.biomass.proofs.crown.crown_in_range.Statement.{statement}
 use Rattle.biomass.proofs.crown.crown_in_range.Tie as tie
 
 mul-row : tie.Need-mul-row
-mul-row c = search needs
+mul-row c = omega arith
 
 array-copy-out-row : tie.Need-array-copy-out-row
-array-copy-out-row c = search needs
+array-copy-out-row c = omega arith
 
 array-copy-out-on-curve : tie.Need-array-copy-out-on-curve
-array-copy-out-on-curve c = search needs
+array-copy-out-on-curve c = omega arith
 
 cast-on-curve : tie.Need-cast-on-curve
 cast-on-curve c = cast (crown-k _ (c .before .before .before .pre .0 .most)) (lit< tt)
@@ -42,10 +41,10 @@ returns c =
     c .on-curve .ensures ∙ ap₂ (λ (z : ℤ) (p : ℕ). range (curve z p 1000000)) (unsigned (crown-k _ (begin .pre .0 .most)) (lit< tt)) (c .before .crown-power .ensures) ∙ rw (le-leb (begin .args .d) 500 (omega arith))
 
 array-copy-out-on-line : tie.Need-array-copy-out-on-line
-array-copy-out-on-line c = search needs
+array-copy-out-on-line c = omega arith
 
 array-copy-out-on-line-2 : tie.Need-array-copy-out-on-line-2
-array-copy-out-on-line-2 c = search needs
+array-copy-out-on-line-2 c = omega arith
 
 on-line-requires : tie.Need-on-line-requires
 on-line-requires c κs =

@@ -1,20 +1,20 @@
 -- `biomass::crown::crown_power` meets its contract: antt computes the test of Law.Scaled at each of the table's 431 entries.
+use native.Mathlib.Omega.{arith}
 use mathlib.Core.Path.{refl}
 use Prim.Native.Nat.{_≤_}
-use borrow.Author.Needs.{needs}
 use Rattle.biomass.specs.Law.Scaled.{near, tested}
 use Rattle.biomass.proofs.Power.{holds-w, read-is-w}
 use Rattle.biomass.proofs.crown.crown_power.Statement.{statement}
 use Rattle.biomass.proofs.crown.crown_power.Tie as tie
 
 sub-at : tie.Need-sub-at
-sub-at c = search needs
+sub-at c = omega arith
 
 mul-result : tie.Need-mul-result
-mul-result c = search needs
+mul-result c = omega arith
 
 array-read-result : tie.Need-array-read-result
-array-read-result c = search needs
+array-read-result c = omega arith
 
 returns : tie.Need-returns
 returns c =

@@ -1,6 +1,6 @@
 -- `biomass::part::on_curve` meets its contract: a coefficient below 2^20 and a power of at most 2^32 units have a product within 64 bits, and a quotient is not above
 -- what is divided.
-use borrow.Author.Needs.{needs}
+use mathlib.Core.Path.{refl}
 use Prim.Native.Nat.{_+_, _*_, _^_, _≤_}
 use native.Mathlib.Omega.{arith}
 use native.Mathlib.Nat.{mul-le-mul, le-of-lt, div-le-self}
@@ -14,22 +14,22 @@ mul-t4 : tie.Need-mul-t4
 mul-t4 c = omega (arith, product c)
 
 div-t5 : tie.Need-div-t5
-div-t5 c = search needs
+div-t5 c = omega arith
 
 add-t7 : tie.Need-add-t7
-add-t7 c = search needs
+add-t7 c = omega arith
 
 mul-t8 : tie.Need-mul-t8
 mul-t8 c = omega (arith, product c)
 
 div-t9 : tie.Need-div-t9
-div-t9 c = search needs
+div-t9 c = omega arith
 
 add-t10 : tie.Need-add-t10
 add-t10 c = omega (arith, product c, div-le-self (c .args .coefficient * (c .args .power + 1)) (c .args .unit))
 
 returns : tie.Need-returns
-returns c = search needs
+returns c = refl
 
 pub on-curve-spec : {M : Type 1} → statement M
 on-curve-spec = tie.close (tie.spec mul-t4 div-t5 add-t7 mul-t8 div-t9 add-t10 returns)

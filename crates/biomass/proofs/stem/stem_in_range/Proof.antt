@@ -3,7 +3,6 @@
 use mathlib.Core.Path.{ap, sym}
 use Prim.Native.Nat.{_+_, _/_}
 use native.Mathlib.Omega.{arith}
-use borrow.Author.Needs.{needs}
 use Rattle.biomass.specs.Ends.{range}
 use Rattle.biomass.specs.Law.Stem.{Weighed, weighed, stem-ends}
 use Rattle.biomass.proofs.stem.stem_in_range.Statement.{statement}
@@ -29,7 +28,7 @@ high-weighed :
 high-weighed c = weighed (omega arith) (omega arith) (omega arith)
 
 add-high : tie.Need-add-high
-add-high c = search needs
+add-high c = omega arith
 
 mul-t8 : tie.Need-mul-t8
 mul-t8 c = omega (arith, low-weighed c)

@@ -2,7 +2,6 @@
 -- the base and taken from it, so that nothing overflows and nothing goes below 0.
 use native.Mathlib.Nat.{mul-le-mul}
 use native.Mathlib.Omega.{arith}
-use borrow.Author.Needs.{needs}
 use Rattle.biomass.specs.Law.Stem.{rise-fits, greater-fall-fits, lesser-fall-fits, volumes-over, volumes-under}
 use Rattle.biomass.proofs.stem.volume.Statement.{statement}
 use Rattle.biomass.proofs.stem.volume.Tie as tie
@@ -14,16 +13,16 @@ mul-area-2 : tie.Need-mul-area-2
 mul-area-2 c = omega (arith, mul-le-mul (c .pre .3) (c .pre .3))
 
 mul-slope : tie.Need-mul-slope
-mul-slope c = search needs
+mul-slope c = omega arith
 
 sub-slope : tie.Need-sub-slope
-sub-slope c = search needs
+sub-slope c = omega arith
 
 mul-slope-2 : tie.Need-mul-slope-2
-mul-slope-2 c = search needs
+mul-slope-2 c = omega arith
 
 mul-base : tie.Need-mul-base
-mul-base c = search needs
+mul-base c = omega arith
 
 mul-t12 : tie.Need-mul-t12
 mul-t12 c = omega (arith, rise-fits _ _ (c .before .pre))
@@ -32,7 +31,7 @@ add-t13 : tie.Need-add-t13
 add-t13 c = omega (arith, rise-fits _ _ (c .before .pre))
 
 add-t14 : tie.Need-add-t14
-add-t14 c = search needs
+add-t14 c = omega arith
 
 add-t15 : tie.Need-add-t15
 add-t15 c = omega (arith, rise-fits _ _ (c .before .pre))
@@ -47,10 +46,10 @@ returns : tie.Need-returns
 returns c = let v = volumes-over _ _ (c .before .pre) (c .if1 .taken) in (v .low, v .high, v .most)
 
 sub-under : tie.Need-sub-under
-sub-under c = search needs
+sub-under c = omega arith
 
 add-t8 : tie.Need-add-t8
-add-t8 c = search needs
+add-t8 c = omega arith
 
 mul-t9 : tie.Need-mul-t9
 mul-t9 c = omega (arith, greater-fall-fits _ _ (c .before .pre))
@@ -59,7 +58,7 @@ sub-t10 : tie.Need-sub-t10
 sub-t10 c = omega (arith, greater-fall-fits _ _ (c .before .pre))
 
 sub-t18 : tie.Need-sub-t18
-sub-t18 c = search needs
+sub-t18 c = omega arith
 
 mul-t19 : tie.Need-mul-t19
 mul-t19 c = omega (arith, lesser-fall-fits _ _ (c .before .pre))

@@ -1,5 +1,5 @@
 -- `biomass::trees::trees_of` meets its contract: n is at most a million and p a hundred million, so 200 * n * p + q stays within 64 bits.
-use borrow.Author.Needs.{needs}
+use mathlib.Core.Path.{refl}
 use Prim.Native.Nat.{_*_, _≤_}
 use native.Mathlib.Omega.{arith}
 use native.Mathlib.Nat.{mul-le-mul}
@@ -10,7 +10,7 @@ product : (c : tie.Start) → c .args .n * c .args .p ≤ 1000000 * 100000000
 product c = mul-le-mul (c .pre .0 .most) (c .pre .1 .most)
 
 mul-result : tie.Need-mul-result
-mul-result c = search needs
+mul-result c = omega arith
 
 mul-result-2 : tie.Need-mul-result-2
 mul-result-2 c = omega (arith, product c)
@@ -19,13 +19,13 @@ add-result : tie.Need-add-result
 add-result c = omega (arith, product c)
 
 mul-result-3 : tie.Need-mul-result-3
-mul-result-3 c = search needs
+mul-result-3 c = omega arith
 
 div-result : tie.Need-div-result
-div-result c = search needs
+div-result c = omega arith
 
 returns : tie.Need-returns
-returns c = search needs
+returns c = refl
 
 pub trees-of-spec : {M : Type 1} → statement M
 trees-of-spec =
