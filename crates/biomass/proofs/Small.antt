@@ -1,14 +1,14 @@
 -- Signed arithmetic far from the ends of 64 bits. `Small X x k`: the machine's value X is the whole number x, which is at most k in size.
 -- Sums and products of small numbers are small, with the bounds added and multiplied, so that each fits by one comparison of numerals.
-use Prim.Native.Nat.{ℕ, _+_, _*_, _^_, _≤_, _<_}
+use Prim.Native.Nat.{ℕ, _+_, _*_, _^_, _≤_}
 use native.Mathlib.Nat.{mul-le-mul, le-trans, lt-of-le-of-lt, le-of-eq, add-le-add}
 use native.Mathlib.Omega.{arith}
-use mathlib.Core.Path.{_≡_, refl, sym, ap, ap₂, _∙_, subst}
+use mathlib.Core.Path.{_≡_, refl, ap₂, _∙_}
 use lib.Dec.{T, ltb, ltb→lt}
 use lib.IntN.{ℤ, pos, negsuc, natAbs, _+ℤ_, _*ℤ_}
 use lib.Signed.{mag, natAbs-le}
 use mir.Syntax.{w32, w64}
-use mir.Val.{SFits, Fits, toZ, ofZ}
+use mir.Val.{SFits, toZ, ofZ}
 use mir.Facts.{toZ-ofZ, toZ-pos}
 use Rattle.biomass.specs.Law.Signed.{natAbs-add, natAbs-mul}
 

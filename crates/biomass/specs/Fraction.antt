@@ -1,6 +1,6 @@
 -- Fractions: a numerator of either sign and a denominator, which is 1 or more wherever one is made. Sums, products and the order are those
 -- of school, by cross-multiplication.
-use Prim.Native.Nat.{ℕ, _*_, _≤_}
+use Prim.Native.Nat.{ℕ, _*_}
 use lib.IntN.{ℤ, pos, _+ℤ_, _-ℤ_, _*ℤ_}
 use lib.Signed.{_≤ℤ_}
 

@@ -1,5 +1,4 @@
 -- `figures::biomass_row` meets its contract: the figure's own promise, read out by its reader's.
-use borrow.Author.Needs.{needs}
 use mathlib.Core.Path.{_∙_, ap}
 use Rattle.biomass.specs.Tree.{row}
 use Rattle.figures.specs.Readout.{biomassAt}

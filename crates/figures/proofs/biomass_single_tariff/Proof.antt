@@ -1,6 +1,5 @@
 -- `figures::biomass_single_tariff` meets its contract: the figure's own promise, read out by its reader's; the constants that are handed on are read
 -- back as they were.
-use borrow.Author.Needs.{needs}
 use mathlib.Core.Path.{_∙_, ap}
 use mir.Facts.{toZ-ofZ}
 use Rattle.figures.specs.Readout.{countAt}

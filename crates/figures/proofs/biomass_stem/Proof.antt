@@ -1,5 +1,4 @@
 -- `figures::biomass_stem` meets its contract: the figure's own promise, read out by its reader's.
-use borrow.Author.Needs.{needs}
 use mathlib.Core.Path.{_∙_, ap}
 use Rattle.figures.specs.Readout.{biomassAt}
 use Rattle.figures.proofs.biomass_stem.Statement.{statement}

@@ -1,5 +1,4 @@
 -- `figures::biomass_tree` meets its contract: the figure's own promise, read out by its reader's.
-use borrow.Author.Needs.{needs}
 use mathlib.Core.Path.{_∙_, ap}
 use Rattle.biomass.specs.Tree.{tree}
 use Rattle.figures.specs.Readout.{biomassAt}

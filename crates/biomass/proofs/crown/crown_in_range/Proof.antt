@@ -1,8 +1,7 @@
 -- `biomass::crown::crown_in_range` meets its contract: the row read from the table is the definition's, and the form that the diameter picks is the definition's too.
 use Prim.Native.Nat.{ℕ}
 use native.Mathlib.Omega.{arith}
-use mathlib.Core.Path.{_∙_, ap₂, sym}
-use mathlib.Core.Bool.{Bool, cond}
+use mathlib.Core.Path.{_∙_, ap₂}
 use lib.Dec.{lit<}
 use lib.IntN.{ℤ}
 use borrow.Author.Tests.{le-leb, lt-leb}

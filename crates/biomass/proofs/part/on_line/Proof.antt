@@ -1,9 +1,9 @@
 -- `biomass::part::on_line` meets its contract: the start and the rise are at most 10^9 in size and d at most 1000, so the sum is far from the ends of 64 bits; and it
 -- is not negative (`Rising`), so that its cast to an unsigned number is itself.
 use borrow.Author.Needs.{needs}
-use Prim.Native.Nat.{ℕ, _+_, _*_, _^_, _≤_}
+use Prim.Native.Nat.{_+_, _*_, _^_, _≤_}
 use native.Mathlib.Omega.{arith}
-use mathlib.Core.Path.{_≡_, _∙_, sym, ap, subst}
+use mathlib.Core.Path.{_≡_, _∙_, subst}
 use lib.IntN.{ℤ, pos, natAbs, _+ℤ_, _*ℤ_}
 use mir.Syntax.{w64}
 use mir.Val.{toZ}

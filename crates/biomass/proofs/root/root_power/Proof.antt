@@ -1,5 +1,4 @@
 -- `biomass::root::root_power` meets its contract: the fifth power of at most 300, times 10^5, is within 64 bits, and its square root is y.
-use borrow.Author.Needs.{needs}
 use Prim.Native.Nat.{ℕ, _*_, _^_, _≤_, _<_}
 use native.Mathlib.Nat.{mul-le-mul, mul-le-mul-left, pow-suc, lt-of-le-of-lt}
 use mathlib.Core.Path.{_≡_, _∙_, sym, ap}

@@ -1,7 +1,7 @@
 -- `biomass::tariff::tariff_sum` meets its contract: the constants are below 2^31 in size, the diameter is at most 100 and the height at most 600, so every term and
 -- sum is far from the ends of 64 bits, and what the machine reads back is the whole number itself.
 use borrow.Author.Needs.{needs}
-use Prim.Native.Nat.{ℕ, _+_, _*_, _^_}
+use Prim.Native.Nat.{_+_, _*_, _^_}
 use lib.IntN.{ℤ, pos, _+ℤ_, _*ℤ_}
 use mir.Syntax.{w32, w64}
 use mir.Val.{toZ, ofZ}

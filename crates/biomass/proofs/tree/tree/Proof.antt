@@ -2,7 +2,7 @@
 -- (`tree-bounds`), so that they fit.
 use native.Mathlib.Omega.{arith}
 use mathlib.Core.Path.{_≡_, refl, _∙_, sym, ap}
-use Rattle.biomass.specs.Report.{biomass, gives, refused, refusalNumber}
+use Rattle.biomass.specs.Report.{biomass, gives}
 use Rattle.biomass.specs.Stem.{stem}
 use Rattle.biomass.specs.Crown.{crown}
 use Rattle.biomass.specs.Root.{root}
