@@ -1,6 +1,6 @@
 -- Signed arithmetic far from the ends of 64 bits. `Small X x k`: the machine's value X is the whole number x, which is at most k in size.
 -- Sums and products of small numbers are small, with the bounds added and multiplied, so that each fits by one comparison of numerals.
-use Prim.Native.Nat.{ℕ, _+_, _*_, _^_, _≤_}
+use Prim.Native.Nat.{ℕ, _+_, _*_, _^_, _≤_, _<_}
 use native.Mathlib.Nat.{mul-le-mul, le-trans, lt-of-le-of-lt, le-of-eq, add-le-add}
 use native.Mathlib.Omega.{arith}
 use mathlib.Core.Path.{_≡_, refl, ap₂, _∙_}
@@ -15,6 +15,10 @@ use Rattle.biomass.specs.Law.Signed.{natAbs-add, natAbs-mul}
 -- a number written to a local of 64 bits and read back
 abbrev pub local : ℤ → ℤ
 local X = toZ w64 (ofZ w64 X)
+
+-- it is what it was, where it fits
+pub read-back : {z : ℤ} → mag z < 2 ^ 63 → local z ≡ z
+read-back h = toZ-ofZ (record { sfits = h })
 
 pub record Small (X x : ℤ) (k : ℕ) : Type 0 where
   pub is : X ≡ x

@@ -50,7 +50,7 @@ marked =
     -- (i) "oak crown, d 501: low 273306566"
     (lowOf (crown oak 501) ≡ gives 273306566) ∷ []
 
--- The tariffs and the straight lines, (a) to (c), (h) and (i), compute. A mean is the d between whose two odd squares 400·S lies, and the
+-- Each entry of the list is proved (`AllOf`: the first, and all of the others). The tariffs and the straight lines, (a) to (c), (h) and (i), compute. A mean is the d between whose two odd squares 400·S lies, and the
 -- roots of (f) and (g) come from y.
 pub marked-hold : AllOf marked
 unfolding singleTariff lineTariff mean root rootEnds crown crownEnds

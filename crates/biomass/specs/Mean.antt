@@ -1,18 +1,24 @@
 -- Step 2, the mean diameter d, in tenths of a cm.
 use Prim.Native.Nat.{ℕ, _+_, _-_, _*_, _≤_, _<_}
 use mathlib.Core.Bool.{Bool}
+use mathlib.Core.Path.{_≡_}
+use native.Mathlib.Omega.{arith}
 use lib.Dec.{leb}
 use Rattle.biomass.specs.Whole.{inside, square, greatest}
 use Rattle.biomass.specs.Report.{Report, gives, unless}
 
 -- "Mean d: the whole d with (2d−1)²·n ≤ 400·S < (2d+1)²·n."
--- `whole` says that 2d − 1 is not cut off at 0
+-- `whole` says that 2d − 1 is not cut off at 0 here
 pub record IsMean (n S d : ℕ) : Type 0 where
   pub whole : 1 ≤ 2 * d
   pub not-above : square (2 * d - 1) * n ≤ 400 * S
   pub below : 400 * S < square (2 * d + 1) * n
 
--- The greatest d with the first of the two inequalities. `greatest` tests numbers from 1 on, where 2d − 1 is not cut off. Law.Mean shows that
+-- 2d − 1 is not cut off at any d from 1 on
+pub odd-is-whole : (d : ℕ) → 1 ≤ d → 2 * d - 1 + 1 ≡ 2 * d
+odd-is-whole d h = omega arith
+
+-- The greatest d with the first of the two inequalities. `greatest` tests numbers from 1 on (`odd-is-whole`). Law.Mean shows that
 -- this is the d of step 2, and the only one
 unfoldable pub meanOf : ℕ → ℕ → ℕ
 meanOf n S = greatest (λ d. leb (square (2 * d - 1) * n) (400 * S)) 1000

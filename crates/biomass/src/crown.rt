@@ -9,10 +9,12 @@ use super::units::LEAST_D;
 use super::whole::within;
 ghost use mathlib.Core.Path.{_≡_};
 ghost use Prim.Native.Nat.{_≤_};
+ghost use mathlib.Core.List.{[]};
+ghost use lib.ListN.{getD};
 ghost use Rattle.biomass.specs.Report.{biomass};
 ghost use Rattle.biomass.specs.Ends.{range};
 ghost use Rattle.biomass.specs.Law.Report.{Inside};
-ghost use Rattle.biomass.specs.Crown.{crown, crownEnds, w};
+ghost use Rattle.biomass.specs.Crown.{crown, crownTable, crownEnds, w};
 
 // Larches, Corsican pine, lodgepole pine, Scots pine, firs and spruces and cedars and hemlocks, Douglas fir, beech, oak.
 // Each row: k of Table 5.2.2 in 10^-10 t, a and b of Table 5.2.3 in mg.
@@ -471,12 +473,21 @@ fn crown_power(d: u64) -> u64
     POWER[at]
 }
 
+// A group's row of the table, copied out.
+fn crown_row(group: u64) -> [i64; 3]
+    requires { ⌜ group ≤ 7 ⌝ }
+    ensures { λ r. ⌜ r ≡ getD crownTable group [] ⌝ }
+{
+    let at = group as usize;
+    CROWN[at]
+}
+
+// The crown's biomass where the operands are in their ranges.
 fn crown_in_range(group: u64, d: u64) -> BiomassRange
     requires { ⌜ Inside 0 group 7 × Inside 70 d 1000 ⌝ }
     ensures { λ r. ⌜ r ≡ range (crownEnds group d) ⌝ }
 {
-    let at = group as usize;
-    let row = CROWN[at];
+    let row = crown_row(group);
     if d <= 500 {
         return on_curve(row[0] as u64, crown_power(d), 1_000_000);
     }

@@ -10,10 +10,12 @@ use super::whole::square_root;
 use super::whole::within;
 ghost use mathlib.Core.Path.{_≡_};
 ghost use Prim.Native.Nat.{_≤_};
+ghost use mathlib.Core.List.{[]};
+ghost use lib.ListN.{getD};
 ghost use Rattle.biomass.specs.Report.{biomass};
 ghost use Rattle.biomass.specs.Ends.{range};
 ghost use Rattle.biomass.specs.Law.Report.{Inside};
-ghost use Rattle.biomass.specs.Root.{root, rootEnds, y};
+ghost use Rattle.biomass.specs.Root.{root, rootTable, rootEnds, y};
 
 // Western red cedar and noble fir and Corsican pine, Norway spruce, grand fir and Scots pine and western hemlock,
 // Douglas fir and Japanese larch and lodgepole pine, Sitka spruce, red alder.
@@ -35,12 +37,21 @@ fn root_power(d: u64) -> u64
     square_root(100_000 * (d * d * d * d * d))
 }
 
+// A group's row of the table, copied out.
+fn root_row(group: u64) -> [i64; 3]
+    requires { ⌜ group ≤ 5 ⌝ }
+    ensures { λ r. ⌜ r ≡ getD rootTable group [] ⌝ }
+{
+    let at = group as usize;
+    ROOT[at]
+}
+
+// The root's biomass where the operands are in their ranges.
 fn root_in_range(group: u64, d: u64) -> BiomassRange
     requires { ⌜ Inside 0 group 5 × Inside 70 d 1000 ⌝ }
     ensures { λ r. ⌜ r ≡ range (rootEnds group d) ⌝ }
 {
-    let at = group as usize;
-    let row = ROOT[at];
+    let row = root_row(group);
     if d <= 300 {
         return on_curve(row[0] as u64, root_power(d), 100_000);
     }

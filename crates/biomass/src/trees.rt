@@ -7,6 +7,7 @@ ghost use Rattle.biomass.specs.Report.{count};
 ghost use Rattle.biomass.specs.Trees.{trees, treesOf};
 ghost use Rattle.biomass.specs.Law.Report.{Inside};
 
+// Step 3's quotient, where the operands are in their ranges.
 fn trees_of(n: u64, p: u64, q: u64) -> u64
     requires { ⌜ Inside 0 n 1000000 × Inside 1 p 100000000 × Inside 1 q 100000000 ⌝ }
     ensures { λ r. ⌜ r ≡ treesOf n p q ⌝ }

@@ -1,8 +1,9 @@
 // The unit of a diameter, and the two units of mass that document 01 keeps apart. Nothing here adds one of those to the other.
 
-// The mean diameter d is in tenths of a cm, from 7 cm to 100 cm.
+// The least mean diameter d, in tenths of a cm: 7 cm.
 pub const LEAST_D: u64 = 70;
 
+// The greatest: 100 cm.
 pub const GREATEST_D: u64 = 1000;
 
 // Milligrams of oven-dry biomass.

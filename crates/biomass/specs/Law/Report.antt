@@ -1,7 +1,7 @@
 -- Laws of the checks that a report is made of: what a test that passed or failed says, and which report follows.
 use Prim.Native.Nat.{ℕ, _≤_}
 use mathlib.Core.Path.{_≡_, _∙_, refl, sym, ap}
-use mathlib.Core.Bool.{Bool, true, false, not, cond}
+use mathlib.Core.Bool.{Bool, true, false, not, cond, false≢true}
 use lib.Dec.{leb}
 use borrow.Author.Tests.{leb-true, le-leb, not-true, not-false}
 use Rattle.biomass.specs.Whole.{inside}
@@ -14,16 +14,14 @@ refuses {answer} {n} test next e t = ap (λ (b : Bool). unless b n next) (sym (n
 pub goes-on : {A : Type 0} {answer : Bool} {x : Report A} (test : Bool) (n : ℕ) (next : Report A) → answer ≡ test → not answer ≡ false → x ≡ next → x ≡ unless test n next
 goes-on {answer} test n next e t r = r ∙ ap (λ (b : Bool). unless b n next) (sym (not-false answer t) ∙ e)
 
+-- x is from lo to hi, as a fact
 pub record Inside (lo x hi : ℕ) : Type 0 where
   pub least : lo ≤ x
   pub most : x ≤ hi
 
 both : (s t : Bool) → cond s t false ≡ true → (s ≡ true) × (t ≡ true)
 both true t e = (refl, e)
-both false t e = absurd (never e)
-  where
-    never : false ≡ true → ⊥
-    never e = let z : _≡_ {A = ℕ} 0 1 = cc in omega native.Mathlib.Omega.arith
+both false t e = absurd (false≢true e)
 
 pub inside-true : (lo x hi : ℕ) → inside lo x hi ≡ true → Inside lo x hi
 inside-true lo x hi e =

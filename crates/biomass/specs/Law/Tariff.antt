@@ -1,8 +1,8 @@
 -- Laws of the tariff.
 use Prim.Native.Nat.{ℕ, _*_, _/_}
 use native.Mathlib.Nat.{le-of-suc-le-suc, le-div-iff-mul-le, div-lt-iff-lt-mul, one-mul}
-use mathlib.Core.Path.{_≡_, refl, subst}
-use mathlib.Core.Bool.{true, false}
+use mathlib.Core.Path.{_≡_, refl, sym, subst}
+use mathlib.Core.Bool.{true, false, false≢true}
 use native.Mathlib.Omega.{arith}
 use lib.Dec.{T}
 use lib.IntN.{ℤ, pos, negsuc, natAbs}
@@ -30,7 +30,7 @@ one-to-fifty (negsuc t) h k = cc
 -- a tariff that is not below 1 is not negative
 pub not-below-one : (t : ℤ) → ltZ t (pos 1) ≡ false → T (nonNeg t)
 not-below-one (pos t) h = tt
-not-below-one (negsuc t) h = let clash : _≡_ {A = ℕ} 0 1 = cc in absurd (omega arith)
+not-below-one (negsuc t) h = absurd (false≢true (sym h))
 
 -- ---- what the layer above is given
 

@@ -20,7 +20,8 @@ returns-2 : tie.Need-returns-2
 unfolding crown
 returns-2 c =
     let first = c .before .before in
-    goes-on _ _ _ (first .before .within .ensures) (first .if1 .left) (refuses _ _ (c .before .within2 .ensures) (c .if2 .taken))
+    goes-on _ _ _ (first .before .within .ensures) (first .if1 .left)
+    (refuses _ _ (c .before .within2 .ensures) (c .if2 .taken))
 
 crown-in-range-requires : tie.Need-crown-in-range-requires
 crown-in-range-requires c κs =
@@ -32,7 +33,8 @@ unfolding crown
 returns-3 c =
     let second = c .before in
     let first = second .before .before in
-    goes-on _ _ _ (first .before .within .ensures) (first .if1 .left) (goes-on _ _ _ (second .before .within2 .ensures) (second .if2 .left) (ap gives (c .crown-in-range .ensures)))
+    goes-on _ _ _ (first .before .within .ensures) (first .if1 .left)
+    (goes-on _ _ _ (second .before .within2 .ensures) (second .if2 .left) (ap gives (c .crown-in-range .ensures)))
 
 pub crown-spec : {M : Type 1} → statement M
 crown-spec =

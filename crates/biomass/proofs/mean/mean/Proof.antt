@@ -27,7 +27,8 @@ returns-2 : tie.Need-returns-2
 unfolding mean
 returns-2 c =
     let first = c .before .before in
-    goes-on _ _ _ (first .before .within .ensures) (first .if1 .left) (refuses _ _ (c .before .within2 .ensures) (c .if2 .taken))
+    goes-on _ _ _ (first .before .within .ensures) (first .if1 .left)
+    (refuses _ _ (c .before .within2 .ensures) (c .if2 .taken))
 
 mean-of-requires : tie.Need-mean-of-requires
 mean-of-requires c κs =
@@ -39,7 +40,8 @@ unfolding mean
 returns-3 c =
     let second = c .before in
     let first = second .before .before in
-    goes-on _ _ _ (first .before .within .ensures) (first .if1 .left) (goes-on _ _ _ (second .before .within2 .ensures) (second .if2 .left) (ap gives (c .mean-of .ensures)))
+    goes-on _ _ _ (first .before .within .ensures) (first .if1 .left)
+    (goes-on _ _ _ (second .before .within2 .ensures) (second .if2 .left) (ap gives (c .mean-of .ensures)))
 
 pub mean-spec : {M : Type 1} → statement M
 mean-spec =

@@ -22,7 +22,8 @@ returns-2 : tie.Need-returns-2
 unfolding project
 returns-2 c =
     let first = c .before .before in
-    goes-on _ _ _ (first .before .within .ensures) (first .if1 .left) (refuses _ _ (c .before .within2 .ensures) (c .if2 .taken))
+    goes-on _ _ _ (first .before .within .ensures) (first .if1 .left)
+    (refuses _ _ (c .before .within2 .ensures) (c .if2 .taken))
 
 dioxide-requires : tie.Need-dioxide-requires
 dioxide-requires c κs = in-range (c .before .before .before .within .ensures) (c .before .before .if1 .left) .most
@@ -32,7 +33,12 @@ unfolding project
 returns-3 c =
     let second = c .before .before in
     let first = second .before .before in
-    simp (held (first .before .within .ensures) (first .if1 .left), held (second .before .within2 .ensures) (second .if2 .left), eq-eqb _ _ (c .if3 .taken), c .before .dioxide .ensures)
+    simp (
+      held (first .before .within .ensures) (first .if1 .left),
+      held (second .before .within2 .ensures) (second .if2 .left),
+      eq-eqb _ _ (c .if3 .taken),
+      c .before .dioxide .ensures,
+    )
 
 dioxide-requires-2 : tie.Need-dioxide-requires-2
 dioxide-requires-2 c κs = in-range (c .before .before .before .within2 .ensures) (c .before .before .if2 .left) .most
@@ -49,7 +55,13 @@ returns-4 c =
     let third = c .before .before in
     let second = third .before .before in
     let first = second .before .before in
-    simp (held (first .before .within .ensures) (first .if1 .left), held (second .before .within2 .ensures) (second .if2 .left), ne-eqb _ _ (third .if3 .left), third .before .dioxide .ensures, c .before .dioxide2 .ensures)
+    simp (
+      held (first .before .within .ensures) (first .if1 .left),
+      held (second .before .within2 .ensures) (second .if2 .left),
+      ne-eqb _ _ (third .if3 .left),
+      third .before .dioxide .ensures,
+      c .before .dioxide2 .ensures,
+    )
 
 pub project-spec : {M : Type 1} → statement M
 project-spec =

@@ -20,7 +20,8 @@ returns-2 : tie.Need-returns-2
 unfolding root
 returns-2 c =
     let first = c .before .before in
-    goes-on _ _ _ (first .before .within .ensures) (first .if1 .left) (refuses _ _ (c .before .within2 .ensures) (c .if2 .taken))
+    goes-on _ _ _ (first .before .within .ensures) (first .if1 .left)
+    (refuses _ _ (c .before .within2 .ensures) (c .if2 .taken))
 
 root-in-range-requires : tie.Need-root-in-range-requires
 root-in-range-requires c κs =
@@ -32,7 +33,8 @@ unfolding root
 returns-3 c =
     let second = c .before in
     let first = second .before .before in
-    goes-on _ _ _ (first .before .within .ensures) (first .if1 .left) (goes-on _ _ _ (second .before .within2 .ensures) (second .if2 .left) (ap gives (c .root-in-range .ensures)))
+    goes-on _ _ _ (first .before .within .ensures) (first .if1 .left)
+    (goes-on _ _ _ (second .before .within2 .ensures) (second .if2 .left) (ap gives (c .root-in-range .ensures)))
 
 pub root-spec : {M : Type 1} → statement M
 root-spec =

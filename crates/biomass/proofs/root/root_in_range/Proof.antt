@@ -1,68 +1,82 @@
--- `biomass::root::root_in_range` meets its contract: the row read from the table is the definition's, and the form that the diameter picks is the definition's too.
-use Prim.Native.Nat.{ℕ}
+-- `biomass::root::root_in_range` meets its contract: the row is the definition's (`root_row`), and so is the form that the diameter picks.
+use borrow.Author.Needs.{needs}
+use Prim.Native.Nat.{ℕ, _<_}
 use native.Mathlib.Omega.{arith}
 use mathlib.Core.Path.{_∙_, ap₂}
 use lib.Dec.{lit<}
 use lib.IntN.{ℤ}
 use borrow.Author.Tests.{le-leb, lt-leb}
 use Rattle.biomass.specs.Ends.{range, curve, straight}
-use Rattle.biomass.specs.Root.{rootEnds}
+use Rattle.biomass.specs.Root.{lineA, lineB, rootEnds}
 use Rattle.biomass.specs.Law.Root.{root-b, root-rising}
+use Rattle.biomass.specs.Law.Ends.{Rising}
 use Rattle.biomass.specs.Law.Power.{y-most}
-use Rattle.biomass.proofs.Coefficients.{cast, narrow, unsigned, rising, start, rise}
+use Rattle.biomass.proofs.Coefficients.{column, cast, narrow, unsigned, rising, start-read, rise-read}
 use Rattle.biomass.proofs.root.root_in_range.Statement.{statement}
 use Rattle.biomass.proofs.root.root_in_range.Tie as tie
 
-mul-row : tie.Need-mul-row
-mul-row c = omega arith
-
-array-copy-out-row : tie.Need-array-copy-out-row
-array-copy-out-row c = omega arith
+root-row-requires : tie.Need-root-row-requires
+root-row-requires c κs = c .pre .0 .most
 
 array-copy-out-on-curve : tie.Need-array-copy-out-on-curve
-array-copy-out-on-curve c = omega arith
+array-copy-out-on-curve c = search needs
 
 cast-on-curve : tie.Need-cast-on-curve
-cast-on-curve c = cast (root-b _ (c .before .before .before .pre .0 .most)) (lit< tt)
+cast-on-curve c =
+    let picked = c .before .before in
+    cast (column 0 (picked .root-row .ensures)) (root-b _ (picked .before .pre .0 .most)) (lit< tt)
 
 root-power-requires : tie.Need-root-power-requires
 root-power-requires c κs = omega arith
 
 on-curve-requires : tie.Need-on-curve-requires
 on-curve-requires c κs =
-    let begin = c .before .before .before .before in
-    (lit< tt, narrow (root-b _ (begin .pre .0 .most)) (lit< tt), omega (arith, c .root-power .ensures, y-most (begin .args .d) (omega arith)))
+    let picked = c .before .before .before in
+    let begin = picked .before in
+    (lit< tt, narrow (column 0 (picked .root-row .ensures)) (root-b _ (begin .pre .0 .most)) (lit< tt), omega (arith, c .root-power .ensures, y-most (begin .args .d) (omega arith)))
 
 returns : tie.Need-returns
 unfolding rootEnds
 returns c =
-    let begin = c .before .before .before .before .before in
-    c .on-curve .ensures ∙ ap₂ (λ (z : ℤ) (p : ℕ). range (curve z p 100000)) (unsigned (root-b _ (begin .pre .0 .most)) (lit< tt)) (c .before .root-power .ensures) ∙ rw (le-leb (begin .args .d) 300 (omega arith))
+    let picked = c .before .before .before .before in
+    let begin = picked .before in
+    let coefficient = unsigned (column 0 (picked .root-row .ensures)) (root-b _ (begin .pre .0 .most)) (lit< tt) in
+    c .on-curve .ensures
+    ∙ ap₂ (λ (z : ℤ) (p : ℕ). range (curve z p 100000)) coefficient (c .before .root-power .ensures)
+    ∙ rw (le-leb (begin .args .d) 300 (omega arith))
 
 array-copy-out-on-line : tie.Need-array-copy-out-on-line
-array-copy-out-on-line c = omega arith
+array-copy-out-on-line c = search needs
 
 array-copy-out-on-line-2 : tie.Need-array-copy-out-on-line-2
-array-copy-out-on-line-2 c = omega arith
+array-copy-out-on-line-2 c = search needs
+
+-- above 300 the line has risen above 0
+line : (begin : tie.Start) → 300 < begin .args .d → Rising (lineA (begin .args .group)) (lineB (begin .args .group)) (begin .args .d)
+line begin after = root-rising _ _ (begin .pre .0 .most) after (begin .pre .1 .most)
 
 on-line-requires : tie.Need-on-line-requires
 on-line-requires c κs =
-    let begin = c .before .before .before .before in
-    rising (root-rising _ _ (begin .pre .0 .most) (omega arith) (begin .pre .1 .most))
+    let picked = c .before .before .before in
+    rising (column 1 (picked .root-row .ensures)) (column 2 (picked .root-row .ensures)) (line (picked .before) (omega arith))
 
 returns-2 : tie.Need-returns-2
 unfolding rootEnds
 returns-2 c =
-    let begin = c .before .before .before .before .before in
-    let line = root-rising _ _ (begin .pre .0 .most) (omega arith) (begin .pre .1 .most) in
-    c .on-line .ensures ∙ ap₂ (λ (a b : ℤ). range (straight a b (begin .args .d))) (start line) (rise line) ∙ rw (lt-leb (begin .args .d) 300 (omega arith))
+    let picked = c .before .before .before .before in
+    let begin = picked .before in
+    let start-is = column 1 (picked .root-row .ensures) in
+    let rise-is = column 2 (picked .root-row .ensures) in
+    let risen = line begin (omega arith) in
+    c .on-line .ensures
+    ∙ ap₂ (λ (s r : ℤ). range (straight s r (begin .args .d))) (start-read start-is rise-is risen) (rise-read start-is rise-is risen)
+    ∙ rw (lt-leb (begin .args .d) 300 (omega arith))
 
 pub root-in-range-spec : {M : Type 1} → statement M
 root-in-range-spec =
     tie.close
     (tie.spec
-    mul-row
-    array-copy-out-row
+    root-row-requires
     array-copy-out-on-curve
     cast-on-curve
     root-power-requires

@@ -20,7 +20,8 @@ returns-2 : tie.Need-returns-2
 unfolding stem
 returns-2 c =
     let first = c .before .before in
-    goes-on _ _ _ (first .before .within .ensures) (first .if1 .left) (refuses _ _ (c .before .within2 .ensures) (c .if2 .taken))
+    goes-on _ _ _ (first .before .within .ensures) (first .if1 .left)
+    (refuses _ _ (c .before .within2 .ensures) (c .if2 .taken))
 
 within-requires-3 : tie.Need-within-requires-3
 within-requires-3 c κs = tt
@@ -30,7 +31,9 @@ unfolding stem
 returns-3 c =
     let second = c .before .before in
     let first = second .before .before in
-    goes-on _ _ _ (first .before .within .ensures) (first .if1 .left) (goes-on _ _ _ (second .before .within2 .ensures) (second .if2 .left) (refuses _ _ (c .before .within3 .ensures) (c .if3 .taken)))
+    goes-on _ _ _ (first .before .within .ensures) (first .if1 .left)
+    (goes-on _ _ _ (second .before .within2 .ensures) (second .if2 .left)
+    (refuses _ _ (c .before .within3 .ensures) (c .if3 .taken)))
 
 within-requires-4 : tie.Need-within-requires-4
 within-requires-4 c κs = tt
@@ -41,7 +44,10 @@ returns-4 c =
     let third = c .before .before in
     let second = third .before .before in
     let first = second .before .before in
-    goes-on _ _ _ (first .before .within .ensures) (first .if1 .left) (goes-on _ _ _ (second .before .within2 .ensures) (second .if2 .left) (goes-on _ _ _ (third .before .within3 .ensures) (third .if3 .left) (refuses _ _ (c .before .within4 .ensures) (c .if4 .taken))))
+    goes-on _ _ _ (first .before .within .ensures) (first .if1 .left)
+    (goes-on _ _ _ (second .before .within2 .ensures) (second .if2 .left)
+    (goes-on _ _ _ (third .before .within3 .ensures) (third .if3 .left)
+    (refuses _ _ (c .before .within4 .ensures) (c .if4 .taken))))
 
 stem-in-range-requires : tie.Need-stem-in-range-requires
 stem-in-range-requires c κs =

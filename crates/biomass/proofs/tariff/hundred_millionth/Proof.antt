@@ -3,7 +3,7 @@
 use Prim.Native.Nat.{ℕ, _/_, _^_, _<_}
 use native.Mathlib.Omega.{arith}
 use native.Mathlib.Nat.{div-le-self, lt-of-le-of-lt, not-suc-le-zero}
-use mathlib.Core.Bool.{Bool, true, false}
+use mathlib.Core.Bool.{Bool, true, false, false≢true}
 use mathlib.Core.Path.{_≡_, refl, _∙_, ap, sym}
 use lib.Dec.{lit<}
 use borrow.Author.Tests.{ltb-true}
@@ -61,10 +61,7 @@ below (negsuc a) f t =
 
 above : (z : ℤ) → SFits w64 z → ltZ z (pos 0) ≡ false → Is (quotZ (local z) (pos 100000000)) (z div 100000000)
 above (pos n) f t = divided (record { is = toZ-ofZ f; small = f .sfits })
-above (negsuc a) f t = let clash : _≡_ {A = ℕ} 0 1 = cc in absurd (zero-is-one clash)
-  where
-    zero-is-one : _≡_ {A = ℕ} 0 1 → ⊥
-    zero-is-one e = omega arith
+above (negsuc a) f t = absurd (false≢true (sym t))
 
 negative : (c : tie.Then1) → Below (c .before .args .sum)
 negative c = below (c .before .args .sum) (c .before .fits .sum) (read (c .before .fits .sum) (c .if1 .taken))

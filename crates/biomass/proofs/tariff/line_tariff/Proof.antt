@@ -23,7 +23,8 @@ returns-2 : tie.Need-returns-2
 unfolding lineTariff
 returns-2 c =
     let first = c .before .before in
-    goes-on _ _ _ (first .before .within .ensures) (first .if1 .left) (refuses _ _ (c .before .within2 .ensures) (c .if2 .taken))
+    goes-on _ _ _ (first .before .within .ensures) (first .if1 .left)
+    (refuses _ _ (c .before .within2 .ensures) (c .if2 .taken))
 
 div-t6 : tie.Need-div-t6
 div-t6 c = omega (arith, in-range {lo = 1} {x = c .before .before .before .before .args .number} {hi = 1000} (c .before .before .before .within .ensures) (c .before .before .if1 .left))
@@ -32,7 +33,8 @@ returns-3 : tie.Need-returns-3
 unfolding lineTariff
 returns-3 c =
     let first = c .before .before in
-    goes-on _ _ _ (first .before .within .ensures) (first .if1 .left) (goes-on _ _ _ (c .before .within2 .ensures) (c .if2 .left) refl)
+    goes-on _ _ _ (first .before .within .ensures) (first .if1 .left)
+    (goes-on _ _ _ (c .before .within2 .ensures) (c .if2 .left) refl)
 
 pub line-tariff-spec : {M : Type 1} → statement M
 line-tariff-spec =

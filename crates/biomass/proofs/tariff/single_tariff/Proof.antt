@@ -1,12 +1,11 @@
 -- `biomass::tariff::single_tariff` meets its contract: each test of the code is the definition's, and past them the three routines give the definition's three steps.
-use Prim.Native.Nat.{ℕ, _<_, _^_}
+use Prim.Native.Nat.{ℕ}
 use mathlib.Core.Path.{_≡_, _∙_, ap}
 use lib.IntN.{ℤ}
-use lib.Signed.{mag}
 use mir.Syntax.{w32}
 use mir.Val.{SFits, toZ, ofZ}
 use mir.Facts.{toZ-ofZ}
-use Rattle.biomass.proofs.Small.{local}
+use Rattle.biomass.proofs.Small.{read-back}
 use Rattle.biomass.specs.Whole.{_div_}
 use Rattle.biomass.specs.Tariff.{tariffSum, singleTariff, fromOneToFifty}
 use Rattle.biomass.specs.Law.Report.{refuses, goes-on, in-range}
@@ -27,7 +26,8 @@ returns-2 : tie.Need-returns-2
 unfolding singleTariff
 returns-2 c =
     let first = c .before .before in
-    goes-on _ _ _ (first .before .within .ensures) (first .if1 .left) (refuses _ _ (c .before .within2 .ensures) (c .if2 .taken))
+    goes-on _ _ _ (first .before .within .ensures) (first .if1 .left)
+    (refuses _ _ (c .before .within2 .ensures) (c .if2 .taken))
 
 tariff-sum-requires : tie.Need-tariff-sum-requires
 tariff-sum-requires c κs =
@@ -43,11 +43,7 @@ one-to-fifty-requires c κs = tt
 abbrev back : ℤ → ℤ
 back z = toZ w32 (ofZ w32 z)
 
--- what a routine answers in 64 signed bits is read back as it is
-read-back : {z : ℤ} → mag z < 2 ^ 63 → local z ≡ z
-read-back h = toZ-ofZ (record { sfits = h })
-
--- and so are the four constants that it hands on
+-- the four constants that are handed on are read back as they are
 constants : {c1 c2 c3 c4 : ℤ} (D h : ℕ) → SFits w32 c1 → SFits w32 c2 → SFits w32 c3 → SFits w32 c4 → tariffSum (back c1) (back c2) (back c3) (back c4) D h ≡ tariffSum c1 c2 c3 c4 D h
 constants D h f1 f2 f3 f4 = simp (toZ-ofZ f1, toZ-ofZ f2, toZ-ofZ f3, toZ-ofZ f4)
 
