@@ -12,4 +12,4 @@ pub mod tariff;
 pub mod tree;
 pub mod trees;
 pub mod units;
-mod whole;
+pub mod whole;

@@ -3,7 +3,7 @@ ghost use mathlib.Core.Path.{_≡_};
 ghost use Rattle.biomass.specs.Whole.{inside, wholeRoot};
 
 // Whether x is from lo to hi, ends included.
-pub(crate) fn within(lo: u64, x: u64, hi: u64) -> bool
+pub fn within(lo: u64, x: u64, hi: u64) -> bool
     ensures { λ r. ⌜ r ≡ inside lo x hi ⌝ }
 {
     if x < lo {

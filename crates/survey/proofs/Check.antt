@@ -1,0 +1,52 @@
+-- From a test of the code to a check of the definition: the check that the test fails is the report, and one that it passes leaves the report as it is.
+-- (Law.Report of `biomass` has these for `if !answer`.)
+use Prim.Native.Nat.{ℕ, _+_, _-_, _≤_, _<_, zero-le}
+use lib.Dec.{leb}
+use mathlib.Core.Path.{_≡_, _∙_, refl, sym, ap}
+use mathlib.Core.Bool.{Bool, true, false, cond}
+use native.Mathlib.Omega.{arith}
+use borrow.Author.Tests.{le-leb, lt-leb}
+use Rattle.biomass.specs.Whole.{inside}
+use Rattle.biomass.specs.Law.Report.{true-inside, inside-true}
+use Rattle.biomass.specs.Report.{Report, refused, unless}
+use Rattle.survey.specs.Refusal.{when}
+use Rattle.survey.specs.Survey.{speciesInRange, declared}
+use Rattle.survey.specs.declared.command.Species.{Species}
+use Rattle.survey.specs.declared.survey.Survey.{Survey}
+
+pub stop-when : {A : Type 0} {n : ℕ} {test : Bool} (next : Report A) → test ≡ true → refused n ≡ when test n next
+stop-when {n} next e = ap (λ (b : Bool). when b n next) (sym e)
+
+pub past-when : {A : Type 0} {test : Bool} {x : Report A} (n : ℕ) (next : Report A) → test ≡ false → x ≡ next → x ≡ when test n next
+past-when n next e r = r ∙ ap (λ (b : Bool). when b n next) (sym e)
+
+pub stop-unless : {A : Type 0} {n : ℕ} {test : Bool} (next : Report A) → test ≡ false → refused n ≡ unless test n next
+stop-unless {n} next e = ap (λ (b : Bool). unless b n next) (sym e)
+
+pub past-unless : {A : Type 0} {test : Bool} {x : Report A} (n : ℕ) (next : Report A) → test ≡ true → x ≡ next → x ≡ unless test n next
+past-unless n next e r = r ∙ ap (λ (b : Bool). unless b n next) (sym e)
+
+-- a range from 0 on has one end to test
+pub up-to : (x hi : ℕ) → x ≤ hi → inside 0 x hi ≡ true
+up-to x hi h = true-inside 0 x hi zero-le h
+
+pub above : (x hi : ℕ) → hi < x → inside 0 x hi ≡ false
+above x hi h = simp (le-leb 0 x zero-le, lt-leb x hi h)
+
+-- no species in range, and none that is declared, has an id above 15
+both : (a b : Bool) → cond a b false ≡ true → a ≡ true
+both true b e = refl
+both false b e = e
+
+pub id-in-range : (id : ℕ) (s : Species) → speciesInRange id s ≡ true → id < 16
+id-in-range id s e = let range = inside-true 0 id 15 (both _ _ e) in omega arith
+
+pub id-declared : (id : ℕ) (s : Survey) → declared id s ≡ true → id < 16
+id-declared id s e = let range = inside-true 0 id 15 (both _ _ e) in omega arith
+
+-- whether x + y is at most a limit, as the code asks it without the sum
+pub over : (x y most : ℕ) → y ≤ most → most - y < x → leb (x + y) most ≡ false
+over x y most h less = lt-leb (x + y) most (omega arith)
+
+pub not-over : (x y most : ℕ) → y ≤ most → x ≤ most - y → leb (x + y) most ≡ true
+not-over x y most h le = le-leb (x + y) most (omega arith)

@@ -1,0 +1,6 @@
+-- Laws that the proofs of several routines share.
+pub mod Check
+pub mod Complement
+pub mod Operands
+pub mod Digits
+pub mod Growth

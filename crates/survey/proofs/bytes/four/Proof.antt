@@ -1,0 +1,48 @@
+-- `survey::bytes::four` meets its contract: four bytes are two bytes and the two after them.
+use Prim.Native.Nat.{_+_}
+use native.Mathlib.Omega.{arith}
+use mathlib.Core.Path.{_≡_, ap}
+use Rattle.survey.specs.Bytes.{byte}
+use Rattle.survey.proofs.bytes.four.Statement.{statement}
+use Rattle.survey.proofs.bytes.four.Tie as tie
+
+two-requires : tie.Need-two-requires
+two-requires c κs = omega arith
+
+cast-result : tie.Need-cast-result
+cast-result c = omega arith
+
+mul-result : tie.Need-mul-result
+mul-result c = omega arith
+
+add-two : tie.Need-add-two
+add-two c = omega arith
+
+two-requires-2 : tie.Need-two-requires-2
+two-requires-2 c κs = omega arith
+
+cast-result-2 : tie.Need-cast-result-2
+cast-result-2 c = omega arith
+
+add-result : tie.Need-add-result
+add-result c = omega arith
+
+returns : tie.Need-returns
+returns c =
+    let a = c .before .before .before .args in
+    let third : byte (a .s .now) (a .at + 1 + 1) ≡ byte (a .s .now) (a .at + 2) = ap (byte (a .s .now)) (omega arith) in
+    let fourth : byte (a .s .now) (a .at + 1 + 1 + 1) ≡ byte (a .s .now) (a .at + 2 + 1) = ap (byte (a .s .now)) (omega arith) in
+    omega arith
+
+pub four-spec : {M : Type 1} → statement M
+four-spec =
+    tie.close
+    (tie.spec
+    two-requires
+    cast-result
+    mul-result
+    add-two
+    two-requires-2
+    cast-result-2
+    add-result
+    returns)

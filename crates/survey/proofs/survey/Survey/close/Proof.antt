@@ -1,0 +1,79 @@
+-- `survey::survey::Survey::close` meets its contract: its two tests are the definition's, and then the line's row decides.
+use mathlib.Core.Path.{_≡_, _∙_, refl, sym, ap}
+use Rattle.biomass.specs.Report.{Report, _then_}
+use Rattle.biomass.specs.Law.Report.{refuses, goes-on, stops, follows}
+use Rattle.survey.specs.Line.{rowed, lineRow}
+use Rattle.survey.specs.Survey.{leaves, kept, close}
+use Rattle.survey.specs.declared.survey.Survey.{Survey}
+use Rattle.survey.proofs.Check.{stop-when, past-when}
+use Rattle.survey.proofs.survey.Survey.close.Statement.{statement}
+use Rattle.survey.proofs.survey.Survey.close.Tie as tie
+
+refuse-requires : tie.Need-refuse-requires
+refuse-requires c κs = tt
+
+returns : tie.Need-returns
+unfolding close
+returns c = c .refuse .ensures ∙ ap (leaves _) (stop-when _ (c .before .if1 .taken))
+
+refuse-requires-2 : tie.Need-refuse-requires-2
+refuse-requires-2 c κs = tt
+
+returns-2 : tie.Need-returns-2
+unfolding close
+returns-2 c =
+    let p = c .before in
+    c .refuse2 .ensures ∙ ap (leaves _) (past-when _ _ (p .before .before .if1 .left) (refuses (p .before .before .before .args .self .active) _ refl (p .if2 .taken)))
+
+-- past both tests
+past-tests : (p : tie.Else2) {x : Report Survey} →
+    let s = p .before .before .before .args .self in
+    x ≡ (lineRow (s .factors) (s .line) then λ r. kept r s) → x ≡ close s
+unfolding close
+past-tests p e =
+    past-when _ _ (p .before .before .if1 .left) (goes-on (p .before .before .before .args .self .active) _ _ refl (p .if2 .left) e)
+
+row-requires : tie.Need-row-requires
+row-requires c κs = tt
+
+enum-known-row : tie.Need-enum-known-row
+enum-known-row c = c .match .keys1
+
+keep-requires : tie.Need-keep-requires
+keep-requires c κs = tt
+
+enum-known-why : tie.Need-enum-known-why
+enum-known-why c = c .match .keys2
+
+refuse-requires-3 : tie.Need-refuse-requires-3
+refuse-requires-3 c κs = tt
+
+returns-3 : tie.Need-returns-3
+returns-3 c =
+    let known = c .before .before in
+    let worked = known .before .before in
+    let p = worked .before .before .before in
+    c .keep .ensures ∙ ap (leaves _) (past-tests p (follows _ _ (sym (worked .row .ensures) ∙ ap rowed (known .row2 .given .1)) refl))
+
+returns-4 : tie.Need-returns-4
+returns-4 c =
+    let known = c .before .before in
+    let worked = known .before .before in
+    let p = worked .before .before .before in
+    c .refuse3 .ensures ∙ ap (leaves _) (past-tests p (stops _ _ (sym (worked .row .ensures) ∙ ap rowed (known .why .given .1))))
+
+pub close-spec : {M : Type 1} → statement M
+close-spec =
+    tie.close
+    (tie.spec
+    refuse-requires
+    returns
+    refuse-requires-2
+    returns-2
+    row-requires
+    enum-known-row
+    keep-requires
+    enum-known-why
+    refuse-requires-3
+    returns-3
+    returns-4)

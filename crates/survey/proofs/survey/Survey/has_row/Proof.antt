@@ -1,0 +1,113 @@
+-- `survey::survey::Survey::has_row` meets its contract. The loop's invariant: no row before i is the line's, so that the answer is that of the rows from i on.
+use Prim.Native.Nat.{ℕ, suc, _+_, _-_, _≤_, _<_}
+use native.Mathlib.Nat.{le-trans, le-of-eq, min-le-left, min-le-right, le-min}
+use mathlib.Core.Path.{_≡_, _∙_, refl, sym, ap, subst}
+use mathlib.Core.Bool.{Bool, true, false, cond}
+use native.Mathlib.Omega.{arith}
+use native.Mathlib.Numerals.{add-one}
+use lib.ListN.{length, getD, take, drop, length-take, length-map, drop-of-length-le}
+use lib.Seq.{drop-cons, getD-take}
+use Rattle.survey.specs.Survey.{isLine, anyLine, opened}
+use Rattle.survey.specs.declared.row.Row.{Row}
+use Rattle.survey.specs.declared.survey.Survey.{Survey}
+use Rattle.survey.proofs.survey.Survey.has_row.Statement.{statement}
+use Rattle.survey.proofs.survey.Survey.has_row.Tie as tie
+
+-- whether one of the closed rows from k on is the line's
+abbrev rest : ℕ → ℕ → Survey → ℕ → Bool
+rest stratum id s k = anyLine stratum id (drop k (take (s .closed) (s .rows)))
+
+abbrev Inv-loop : tie.InvT-loop
+Inv-loop stratum id self i₀ i = (i ≤ 32) × (rest stratum id self i ≡ opened stratum id self)
+
+abbrev μ-loop : tie.MeasureT-loop
+μ-loop stratum id self i₀ i = 32 - i
+
+module _ (stratum id : ℕ) (s : Survey) (i : ℕ) where
+  none-left : length (take (s .closed) (s .rows)) ≤ i → rest stratum id s i ≡ false
+  none-left h = ap (anyLine stratum id) (drop-of-length-le (take (s .closed) (s .rows)) h)
+
+  -- past the last closed row, or the last row, there is none
+  none-closed : s .closed ≤ i → rest stratum id s i ≡ false
+  none-closed h = none-left (rw length-take (le-trans (min-le-left (s .closed) (length (s .rows))) h))
+
+  none-kept : length (s .rows) ≤ i → rest stratum id s i ≡ false
+  none-kept h = none-left (rw length-take (le-trans (min-le-right (s .closed) (length (s .rows))) h))
+
+  -- the rows from i on are the one at i and those after it
+  one-off : (z : Row) → i < length (s .rows) → i < s .closed → rest stratum id s i ≡ cond (isLine stratum id (getD (s .rows) i z)) true (rest stratum id s (i + 1))
+  one-off z kept below =
+      let h : i < length (take (s .closed) (s .rows)) = rw length-take (le-min below kept) in
+      rw (add-one, drop-cons (take (s .closed) (s .rows)) i z, getD-take (s .closed) (s .rows) i z)
+
+-- the survey has 32 rows
+all : (p : tie.Start Inv-loop μ-loop) → length (p .args .t1 .rows) ≡ 32
+all p = sym (length-map (p .args .t1 .rows) _) ∙ p .good .0 .1 .1 .1 .1 .0 .1 .0 .1
+
+loop-holds : tie.Need-loop-holds Inv-loop μ-loop
+unfolding opened
+loop-holds c = (omega arith, refl)
+
+returns : tie.Need-returns Inv-loop μ-loop
+returns c =
+    let s = c .before .before .before .args in
+    sym (none-closed (s .stratum) (s .id) (s .t1) _ (c .if1 .taken)) ∙ c .before .before .loop .inv .1
+
+mul-row : tie.Need-mul-row Inv-loop μ-loop
+mul-row c = omega arith
+
+element-copy-out-row : tie.Need-element-copy-out-row Inv-loop μ-loop
+element-copy-out-row c = c .before .loop-test .taken
+
+is-line-requires : tie.Need-is-line-requires Inv-loop μ-loop
+is-line-requires c κs = tt
+
+-- a turn: the answer is that of the rows after i, unless the one at i is the line's
+turn : (c : tie.After-is-line Inv-loop μ-loop) →
+    let at = c .before .before .before .before in
+    let s = at .before .args in
+    cond (c .is-line .result) true (rest (s .stratum) (s .id) (s .t1) (at .loop .i + 1)) ≡ opened (s .stratum) (s .id) (s .t1)
+turn c =
+    let else = c .before .before in
+    let at = else .before .before in
+    let s = at .before .args in
+    let i = at .loop .i in
+    let kept : i < length (s .t1 .rows) = subst (λ (n : ℕ). i < n) (sym (all (at .before))) (else .before .loop-test .taken) in
+    ap (λ (b : Bool). cond b true (rest (s .stratum) (s .id) (s .t1) (i + 1))) (c .is-line .ensures)
+    ∙ sym (one-off (s .stratum) (s .id) (s .t1) i _ kept (else .if1 .left))
+    ∙ at .loop .inv .1
+
+returns-2 : tie.Need-returns-2 Inv-loop μ-loop
+returns-2 c = rw (c .if2 .taken) at (turn (c .before))
+
+add-i : tie.Need-add-i Inv-loop μ-loop
+add-i c = omega arith
+
+loop-less : tie.Need-loop-less Inv-loop μ-loop
+loop-less c = omega arith
+
+loop-again : tie.Need-loop-again Inv-loop μ-loop
+loop-again c = (omega arith, rw (c .if2 .left) at (turn (c .before)))
+
+returns-3 : tie.Need-returns-3 Inv-loop μ-loop
+returns-3 c =
+    let p = c .before .before in
+    let full : length (p .args .t1 .rows) ≤ c .before .loop .i = le-trans (le-of-eq (all p)) (c .loop-test .left) in
+    sym (none-kept (p .args .stratum) (p .args .id) (p .args .t1) (c .before .loop .i) full) ∙ c .before .loop .inv .1
+
+pub has-row-spec : {M : Type 1} → statement M
+has-row-spec =
+    tie.close
+    (tie.spec
+    Inv-loop
+    μ-loop
+    loop-holds
+    returns
+    mul-row
+    element-copy-out-row
+    is-line-requires
+    returns-2
+    add-i
+    loop-less
+    loop-again
+    returns-3)

@@ -1,0 +1,44 @@
+-- `survey::survey::Survey::measured` meets its contract: its two tests are the definition's, and then the line's answer decides.
+use mathlib.Core.Path.{_∙_, refl, ap}
+use Rattle.biomass.specs.Report.{Report, gives, _then_}
+use Rattle.biomass.specs.Law.Report.{refuses, goes-on}
+use Rattle.survey.specs.Survey.{leaves, withLine, measure}
+use Rattle.survey.specs.declared.line.Line.{Line}
+use Rattle.survey.proofs.Check.{stop-when, past-when}
+use Rattle.survey.proofs.survey.Survey.measured.Statement.{statement}
+use Rattle.survey.proofs.survey.Survey.measured.Tie as tie
+
+refuse-requires : tie.Need-refuse-requires
+refuse-requires c κs = tt
+
+returns : tie.Need-returns
+unfolding measure
+returns c = c .refuse .ensures ∙ ap (leaves _) (stop-when _ (c .before .if1 .taken))
+
+refuse-requires-2 : tie.Need-refuse-requires-2
+refuse-requires-2 c κs = tt
+
+returns-2 : tie.Need-returns-2
+unfolding measure
+returns-2 c =
+    let p = c .before in
+    c .refuse2 .ensures ∙ ap (leaves _) (past-when _ _ (p .before .before .if1 .left) (refuses (p .before .before .before .args .self .active) _ refl (p .if2 .taken)))
+
+measured-requires : tie.Need-measured-requires
+measured-requires c κs = tt
+
+note-requires : tie.Need-note-requires
+note-requires c κs = tt
+
+returns-3 : tie.Need-returns-3
+unfolding measure
+returns-3 c =
+    let p = c .before .before .before in
+    let s = p .before .before .before .args .self in
+    c .note .ensures
+    ∙ ap (leaves s) (past-when _ _ (p .before .before .if1 .left) (goes-on (s .active) _ _ refl (p .if2 .left) (ap (λ (l : Report Line). l then λ l. gives (withLine s l)) (c .before .measured .ensures))))
+
+pub measured-spec : {M : Type 1} → statement M
+measured-spec =
+    tie.close
+    (tie.spec refuse-requires returns refuse-requires-2 returns-2 measured-requires note-requires returns-3)

@@ -1,0 +1,26 @@
+-- `survey::writing::Encoded::one` meets its contract: the byte is stored after the bytes held, and the length grows by one.
+use Prim.Native.Nat.{_<_}
+use native.Mathlib.Omega.{arith}
+use native.Mathlib.Numerals.{add-one}
+use mathlib.Core.Path.{refl}
+use lib.ListN.{length}
+use lib.Seq.{take-suc-set}
+use borrow.Author.Needs.{needs}
+use Rattle.survey.proofs.writing.Encoded.one.Statement.{statement}
+use Rattle.survey.proofs.writing.Encoded.one.Tie as tie
+
+element-write-e : tie.Need-element-write-e
+element-write-e c = omega arith
+
+add-e : tie.Need-add-e
+add-e c = omega arith
+
+returns : tie.Need-returns
+returns c =
+    let e = c .args .self in
+    let room : e .length < 21 = omega arith in
+    let within : e .length < length (e .bytes) = search needs in
+    record { is = rw add-one (take-suc-set (e .bytes) (e .length) (c .args .x) within); long = refl }
+
+pub one-spec : {M : Type 1} → statement M
+one-spec = tie.close (tie.spec element-write-e add-e returns)

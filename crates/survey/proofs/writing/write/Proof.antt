@@ -1,0 +1,80 @@
+-- `survey::writing::write` meets its contract: both refusals say that the command does not fit, and past them it does. The bytes laid are those
+-- that `encode` holds, which are the command's.
+use Prim.Native.Nat.{ℕ, _+_, _≤_, _<_}
+use native.Mathlib.Omega.{arith}
+use mathlib.Core.Path.{_≡_, _∙_}
+use mathlib.Core.List.{List}
+use lib.Dec.{lit≤}
+use lib.ListN.{length}
+use lib.Seq.{paste}
+use borrow.Author.Tests.{le-leb, lt-leb}
+use Rattle.biomass.specs.Report.{refused, gives}
+use Rattle.survey.specs.Command.{encode}
+use Rattle.survey.specs.Encoded.{Holds}
+use Rattle.survey.specs.Writing.{write, laidAt, bufferAfter}
+use Rattle.survey.specs.declared.command.Command.{Command}
+use Rattle.survey.specs.declared.command.Command.the-variants.{Species, Factor, Open, Measured, Height, Close, End}
+use Rattle.survey.specs.declared.writing.Encoded.{Encoded}
+use Rattle.survey.proofs.writing.write.Statement.{statement}
+use Rattle.survey.proofs.writing.write.Tie as tie
+
+longest : (k : Command) → length (encode k) ≤ 21
+longest (Species id s) = lit≤ tt
+longest (Factor cm factor) = lit≤ tt
+longest (Open stratum species p q) = lit≤ tt
+longest (Measured class count) = lit≤ tt
+longest (Height cm tenths) = lit≤ tt
+longest Close = lit≤ tt
+longest End = lit≤ tt
+
+module _ (b : List ℕ) (at : ℕ) (k : Command) (e : Encoded) (h : Holds e (encode k)) where
+  no-room : length b < at + e .length → (refused 4 ≡ write b at k) × (b ≡ bufferAfter b at k)
+  unfolding write bufferAfter
+  no-room short =
+      let test = lt-leb (at + length (encode k)) (length b) (omega (arith, h .long)) in
+      (rw test, rw test)
+
+  room : at + e .length ≤ length b → (gives (at + e .length) ≡ write b at k) × (paste b at (e .bytes) (e .length) ≡ bufferAfter b at k)
+  unfolding write bufferAfter laidAt
+  room fits =
+      let test = le-leb (at + length (encode k)) (length b) (omega (arith, h .long)) in
+      (rw (test, h .long), rw (test, h .is, h .long))
+
+encode-requires : tie.Need-encode-requires
+encode-requires c κs = tt
+
+returns : tie.Need-returns
+returns c =
+    let a = c .before .before .before .args in
+    no-room (a .buffer .now) (a .at) (a .command) (c .before .encode .result) (c .before .encode .ensures) (omega arith)
+
+sub-if2 : tie.Need-sub-if2
+sub-if2 c = omega arith
+
+returns-2 : tie.Need-returns-2
+returns-2 c =
+    let a = c .before .before .before .before .args in
+    no-room (a .buffer .now) (a .at) (a .command) (c .before .before .encode .result) (c .before .before .encode .ensures) (omega arith)
+
+lay-requires : tie.Need-lay-requires
+lay-requires c κs =
+    let past = c .before .before .before .before in
+    (omega (arith, past .encode .ensures .long, longest (past .before .before .args .command)), omega arith)
+
+add-t7 : tie.Need-add-t7
+add-t7 c = omega arith
+
+same-length : tie.Need-same-length
+same-length c = c .before .before .lay .kept .0
+
+returns-3 : tie.Need-returns-3
+returns-3 c =
+    let past = c .before .before .before .before .before .before .before in
+    let a = past .before .before .args in
+    let r = room (a .buffer .now) (a .at) (a .command) (past .encode .result) (past .encode .ensures) (omega arith) in
+    (r .0, c .before .before .lay .ensures ∙ r .1)
+
+pub write-spec : {M : Type 1} → statement M
+write-spec =
+    tie.close
+    (tie.spec encode-requires returns sub-if2 returns-2 lay-requires add-t7 same-length returns-3)

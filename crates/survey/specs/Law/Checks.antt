@@ -1,0 +1,152 @@
+-- Laws of the checks that a command goes through: what the answer says of each test on the way, where a figure is given and where a number is
+-- refused; when two reports with the same checks are the same; and what the tests of two or more parts say.
+use Prim.Native.Nat.{ℕ, zero, suc, _≤_, _<_, zero-le}
+use mathlib.Core.Path.{_≡_, _∙_, refl, sym, ap, ap₂}
+use mathlib.Core.Bool.{Bool, true, false, cond, false≢true}
+use lib.Dec.{ltb, eqb, eqb·zero-suc, eqb·suc-zero, eqb·suc-suc}
+use borrow.Author.Tests.{ltb-true, lt-ltb, eqb-false}
+use Rattle.biomass.specs.Whole.{inside}
+use Rattle.biomass.specs.Report.{Report, refused, gives, unless, _then_}
+use Rattle.biomass.specs.Law.Report.{Inside, inside-true, true-inside}
+use Rattle.biomass.specs.Law.Gives.{never}
+use Rattle.survey.specs.Refusal.{when}
+use Rattle.survey.specs.Survey.{speciesAt, speciesInRange, declared, isLine}
+use Rattle.survey.specs.Valid.{ValidSpecies}
+use Rattle.survey.specs.declared.command.Species.{Species}
+use Rattle.survey.specs.declared.row.Row.{Row}
+use Rattle.survey.specs.declared.survey.Survey.{Survey}
+
+-- ---- one check
+
+-- the check was passed, its test being this, and the rest of the report is the answer
+pub record Past {A : Type 0} (test this : Bool) (rest answer : Report A) : Type 0 where
+  pub test-is : test ≡ this
+  pub next : rest ≡ answer
+
+pub when-gives : {A : Type 0} (test : Bool) (n : ℕ) (rest : Report A) {a : A} → when test n rest ≡ gives a → Past test false rest (gives a)
+when-gives true n rest e = never e
+when-gives false n rest e = record { test-is = refl; next = e }
+
+pub unless-gives : {A : Type 0} (test : Bool) (n : ℕ) (rest : Report A) {a : A} → unless test n rest ≡ gives a → Past test true rest (gives a)
+unless-gives true n rest e = record { test-is = refl; next = e }
+unless-gives false n rest e = never e
+
+pub cond-gives : {A X : Type 0} (test : Bool) (r q : Report A) {a : A} → cond test r q ≡ gives a → (r ≡ gives a → X) → (q ≡ gives a → X) → X
+cond-gives true r q e f g = f e
+cond-gives false r q e f g = g e
+
+-- a number that is refused is this check's, or that of the rest
+pub data Stopped {A : Type 0} (test fails passes : Bool) (n m : ℕ) (rest : Report A) : Type 0 where
+  here : test ≡ fails → n ≡ m → Stopped test fails passes n m rest
+  later : Past test passes rest (refused m) → Stopped test fails passes n m rest
+
+number-is : {A : Type 0} {n m : ℕ} → _≡_ {A = Report A} (refused n) (refused m) → n ≡ m
+number-is e = cc
+
+pub when-refused : {A : Type 0} (test : Bool) (n : ℕ) (rest : Report A) {m : ℕ} → when test n rest ≡ refused m → Stopped test true false n m rest
+when-refused true n rest e = here refl (number-is e)
+when-refused false n rest e = later (record { test-is = refl; next = e })
+
+pub unless-refused : {A : Type 0} (test : Bool) (n : ℕ) (rest : Report A) {m : ℕ} → unless test n rest ≡ refused m → Stopped test false true n m rest
+unless-refused true n rest e = later (record { test-is = refl; next = e })
+unless-refused false n rest e = here refl (number-is e)
+
+-- a number that is not this check's is that of the rest
+pub passed-on : {A : Type 0} {test fails passes : Bool} {n m : ℕ} {rest : Report A} →
+    eqb n m ≡ false → Stopped test fails passes n m rest → Past test passes rest (refused m)
+passed-on {n} {m} other (here t e) = absurd (eqb-false n m other e)
+passed-on other (later p) = p
+
+-- ---- a report that is made of another one's figure
+
+-- a number that is refused is the first report's, or that of what is made of its figure
+pub data ThenStopped {A B : Type 0} (first : Report A) (next-of : A → Report B) (m : ℕ) : Type 0 where
+  at-first : first ≡ refused m → ThenStopped first next-of m
+  after : (a : A) → first ≡ gives a → next-of a ≡ refused m → ThenStopped first next-of m
+
+pub then-refused : {A B : Type 0} (first : Report A) (next-of : A → Report B) {m : ℕ} → first then next-of ≡ refused m → ThenStopped first next-of m
+then-refused (refused n) next-of e = at-first (ap refused (number-is e))
+then-refused (gives a) next-of e = after a refl e
+
+-- ---- two reports with the same checks: they are the same where what follows is, and that only past the check
+
+pub when-same : {A : Type 0} (test : Bool) (n : ℕ) (r q : Report A) → (test ≡ false → r ≡ q) → when test n r ≡ when test n q
+when-same true n r q h = refl
+when-same false n r q h = h refl
+
+pub unless-same : {A : Type 0} (test : Bool) (n : ℕ) (r q : Report A) → (test ≡ true → r ≡ q) → unless test n r ≡ unless test n q
+unless-same true n r q h = h refl
+unless-same false n r q h = refl
+
+-- and where more is made of the figure of the one
+module _ {A B : Type 0} (f : A → Report B) where
+  pub when-then : (test : Bool) (n : ℕ) (r : Report A) (q : Report B) → (test ≡ false → r then f ≡ q) → when test n r then f ≡ when test n q
+  when-then true n r q h = refl
+  when-then false n r q h = h refl
+
+  pub unless-then : (test : Bool) (n : ℕ) (r : Report A) (q : Report B) → (test ≡ true → r then f ≡ q) → unless test n r then f ≡ unless test n q
+  unless-then true n r q h = h refl
+  unless-then false n r q h = refl
+
+  pub cond-then : (test : Bool) (r s : Report A) (q p : Report B) →
+      (test ≡ true → r then f ≡ q) → (test ≡ false → s then f ≡ p) → cond test r s then f ≡ cond test q p
+  cond-then true r s q p h k = h refl
+  cond-then false r s q p h k = k refl
+
+  pub then-then : {C : Type 0} (first : Report C) (g : C → Report A) (q : C → Report B) →
+      ((c : C) → first ≡ gives c → g c then f ≡ q c) → first then g then f ≡ first then q
+  then-then (refused n) g q h = refl
+  then-then (gives c) g q h = h c refl
+
+  -- a first report that is known to give a figure
+  pub answered-then : {C : Type 0} {c : C} {q : Report B} (first : Report C) (g : C → Report A) →
+      first ≡ gives c → g c then f ≡ q → first then g then f ≡ q
+  answered-then first g e h = ap (λ (r : Report _). r then g then f) e ∙ h
+
+-- ---- tests of two parts
+
+both : (s t : Bool) → cond s t false ≡ true → (s ≡ true) × (t ≡ true)
+both true t e = (refl, e)
+both false t e = absurd (false≢true e)
+
+-- an id up to 15 with a gravity that is not 0
+pub record Declared (id : ℕ) (s : Survey) : Type 0 where
+  pub in-table : id ≤ 15
+  pub gravity : 0 < speciesAt s id .gravity
+
+pub declared-true : (id : ℕ) (s : Survey) → declared id s ≡ true → Declared id s
+declared-true id s e =
+    let b = both (inside 0 id 15) (ltb 0 (speciesAt s id .gravity)) e in
+    record { in-table = inside-true 0 id 15 (b .0) .most; gravity = ltb-true 0 (speciesAt s id .gravity) (b .1) }
+
+pub true-declared : (id : ℕ) (s : Survey) → Declared id s → declared id s ≡ true
+true-declared id s d =
+    ap (λ (test : Bool). cond test (ltb 0 (speciesAt s id .gravity)) false) (true-inside 0 id 15 zero-le (d .in-table))
+    ∙ lt-ltb 0 (speciesAt s id .gravity) (d .gravity)
+
+-- whether a species is declared hangs on what stands at its id
+pub declared-as : (id : ℕ) (s t : Survey) → speciesAt t id ≡ speciesAt s id → declared id t ≡ declared id s
+declared-as id s t e = ap (λ (x : Species). cond (inside 0 id 15) (ltb 0 (x .gravity)) false) e
+
+pub species-in-range : (id : ℕ) (s : Species) → speciesInRange id s ≡ true → Inside 0 id 15 × ValidSpecies s
+species-in-range id s e =
+    let i = both (inside 0 id 15) _ e in
+    let c = both (inside 0 (s .crown) 7) _ (i .1) in
+    let r = both (inside 0 (s .root) 5) _ (c .1) in (
+      inside-true 0 id 15 (i .0),
+      record {
+        crown = inside-true 0 (s .crown) 7 (c .0);
+        root = inside-true 0 (s .root) 5 (r .0);
+        gravity = inside-true 1 (s .gravity) 100 (r .1);
+      },
+    )
+
+eqb-symmetric : (a b : ℕ) → eqb a b ≡ eqb b a
+eqb-symmetric zero zero = refl
+eqb-symmetric zero (suc b) = eqb·zero-suc b ∙ sym (eqb·suc-zero b)
+eqb-symmetric (suc a) zero = eqb·suc-zero a ∙ sym (eqb·zero-suc a)
+eqb-symmetric (suc a) (suc b) = eqb·suc-suc a b ∙ eqb-symmetric a b ∙ sym (eqb·suc-suc b a)
+
+-- a line is that of one stratum and one species, whichever of two is asked for the other
+pub is-line-symmetric : (r l : Row) → isLine (r .stratum) (r .species) l ≡ isLine (l .stratum) (l .species) r
+is-line-symmetric r l = ap₂ (λ (s t : Bool). cond s t false) (eqb-symmetric (l .stratum) (r .stratum)) (eqb-symmetric (l .species) (r .species))

@@ -1,0 +1,136 @@
+-- Two of the wrong programs that document 01 would see rejected: "a survey that swallows commands unchanged", and "32 lines" or "over the limit"
+-- told of a survey below it. What each would hand back is not what the promise of applying a command says: in general, and at one place each.
+use Prim.Native.Nat.{ℕ, _+_, _≤_, _<_}
+use native.Mathlib.Omega.{arith}
+use mathlib.Core.Path.{_≡_, _∙_, refl, sym, ap}
+use mathlib.Core.Bool.{true≢false}
+use lib.ListN.{set}
+use lib.Seq.{getD-set-same}
+use lib.Dec.{lit≤, lit<}
+use lib.IntN.{pos, negℤ}
+use Rattle.biomass.specs.Report.{Report, refused, gives}
+use Rattle.survey.specs.Line.{begun, factorAt, withTrees, measured}
+use Rattle.survey.specs.Survey.{After, leaves, undeclared, fresh, speciesAt, withSpecies, withLine, withOpened, declare, opened, openLine, measure, finish, apply}
+use Rattle.survey.specs.Valid.{Valid}
+use Rattle.survey.specs.Law.Checks.{true-declared}
+use Rattle.survey.specs.Law.Taken.{declare-gives, factor-gives, open-gives, measure-gives, height-gives, close-gives, finish-gives}
+use Rattle.survey.specs.Law.Limit.{AtLimit, limit-told}
+use Rattle.survey.specs.declared.command.Species.{Species}
+use Rattle.survey.specs.declared.command.Command.{Command}
+use Rattle.survey.specs.declared.survey.Survey.{Survey}
+
+-- ---- in general
+
+-- a command that a valid survey takes changes it: each notes something that was not there
+pub taken-changes : (c : Command) (s t : Survey) → Valid s → apply c s ≡ gives t → t ≡ s → ⊥
+taken-changes (Command.Species id species) s t v e same =
+    let g = declare-gives id species s t e in
+    let is : speciesAt s id ≡ species =
+    ap (λ (x : Survey). speciesAt x id) (sym same ∙ g .is) ∙ getD-set-same (s .species) id species undeclared (omega (arith, v .ids)) in
+    let gravity : 0 < speciesAt s id .gravity = rw is (g .in-range .gravity .least) in
+    true≢false (sym (true-declared id s (record { in-table = g .in-table .most; gravity = gravity })) ∙ g .new)
+taken-changes (Command.Factor cm factor) s t v e same =
+    let g = factor-gives cm factor s t e in
+    let is : factorAt (s .factors) cm ≡ factor =
+    ap (λ (x : Survey). factorAt (x .factors) cm) (sym same ∙ g .is) ∙ getD-set-same (s .factors) cm factor 0 (omega (arith, v .cms)) in
+    omega arith
+taken-changes (Command.Open stratum species p q) s t v e same =
+    let g = open-gives stratum species p q s t e in
+    true≢false (ap (λ (x : Survey). x .active) (sym (g .is) ∙ same) ∙ g .none-open)
+taken-changes (Command.Measured class count) s t v e same =
+    let g = measure-gives class count s t e in
+    let more : s .line .n ≡ s .line .n + count = ap (λ (x : Survey). x .line .n) (sym same ∙ g .is) in
+    omega arith
+taken-changes (Command.Height cm tenths) s t v e same =
+    let g = height-gives cm tenths s t e in
+    let more : s .line .heights ≡ s .line .heights + 1 = ap (λ (x : Survey). x .line .heights) (sym same ∙ g .is) in
+    omega arith
+taken-changes Command.Close s t v e same =
+    let more : s .closed ≡ s .closed + 1 = ap (λ (x : Survey). x .closed) (sym same ∙ close-gives s t e .is) in
+    omega arith
+taken-changes Command.End s t v e same =
+    let g = finish-gives s t e in
+    true≢false (ap (λ (x : Survey). x .ended) (sym (g .is) ∙ same) ∙ g .not-ended)
+
+-- so it is not swallowed
+pub not-swallowed : (c : Command) (s t : Survey) → Valid s → apply c s ≡ gives t → leaves s (apply c s) ≡ record { survey = s; refusal = 0 } → ⊥
+not-swallowed c s t v e swallowed =
+    taken-changes c s t v e (ap (λ (r : Report Survey). leaves s r .survey) (sym e) ∙ ap (λ (x : After). x .survey) swallowed)
+
+-- 11 comes back only at the limit
+pub told-at-limit : (c : Command) (s : Survey) → leaves s (apply c s) .refusal ≡ 11 → AtLimit c s
+told-at-limit c s = by-cases (apply c s) (limit-told c s)
+  where
+    by-cases : (r : Report Survey) → (r ≡ refused 11 → AtLimit c s) → leaves s r .refusal ≡ 11 → AtLimit c s
+    by-cases (refused n) told e = told (ap refused e)
+    by-cases (gives t) told e = absurd (omega arith)
+
+pub lines-below-limit : (stratum id p q : ℕ) (s u : Survey) → s .closed < 32 →
+    leaves s (apply (Command.Open stratum id p q) s) ≡ record { survey = u; refusal = 11 } → ⊥
+lines-below-limit stratum id p q s u below e =
+    let at : 32 ≤ s .closed = told-at-limit (Command.Open stratum id p q) s (ap (λ (x : After). x .refusal) e) in
+    omega arith
+
+pub trees-below-limit : (class count : ℕ) (s u : Survey) → s .line .n + count ≤ 1000000 →
+    leaves s (apply (Command.Measured class count) s) ≡ record { survey = u; refusal = 11 } → ⊥
+trees-below-limit class count s u below e =
+    let over : 1000000 < s .line .n + count = told-at-limit (Command.Measured class count) s (ap (λ (x : After). x .refusal) e) in
+    omega arith
+
+pub heights-below-limit : (cm tenths : ℕ) (s u : Survey) → s .line .heights < 1000 →
+    leaves s (apply (Command.Height cm tenths) s) ≡ record { survey = u; refusal = 11 } → ⊥
+heights-below-limit cm tenths s u below e =
+    let at : 1000 ≤ s .line .heights = told-at-limit (Command.Height cm tenths) s (ap (λ (x : After). x .refusal) e) in
+    omega arith
+
+-- ---- at one place: the commands of the listing, up to its first measured trees, and the end of an empty book
+
+abbrev listed : Species
+listed = record { crown = 7; root = 5; gravity = 56; c1 = pos 58830000; c2 = pos 20123000; c3 = negℤ (pos 54780); c4 = negℤ (pos 57397) }
+
+unfoldable pub withSpecies3 : Survey
+unfolding fresh
+withSpecies3 = withSpecies fresh (set (fresh .species) 3 listed)
+
+unfoldable pub withLine1 : Survey
+unfolding withSpecies3
+withLine1 = withOpened withSpecies3 (begun 1 3 listed 6 1)
+
+unfoldable pub withFourTrees : Survey
+unfolding withLine1
+withFourTrees = withLine withLine1 (withTrees 60 4 (withLine1 .line))
+
+-- each command is taken, and leaves the next of these surveys
+pub species-taken : leaves fresh (apply (Command.Species 3 listed) fresh) ≡ record { survey = withSpecies3; refusal = 0 }
+unfolding fresh declare withSpecies3
+species-taken = refl
+
+pub line-taken : leaves withSpecies3 (apply (Command.Open 1 3 6 1) withSpecies3) ≡ record { survey = withLine1; refusal = 0 }
+unfolding fresh opened openLine withSpecies3 withLine1
+line-taken = refl
+
+pub trees-taken : leaves withLine1 (apply (Command.Measured 60 4) withLine1) ≡ record { survey = withFourTrees; refusal = 0 }
+unfolding fresh measured measure withSpecies3 withLine1 withFourTrees
+trees-taken = refl
+
+-- none is swallowed: a line is open after the one, 4 trees are noted after the other, and an ended book has ended
+pub line-not-swallowed : leaves withSpecies3 (apply (Command.Open 1 3 6 1) withSpecies3) ≡ record { survey = withSpecies3; refusal = 0 } → ⊥
+unfolding fresh withSpecies3 withLine1
+line-not-swallowed e = true≢false (ap (λ (x : After). x .survey .active) (sym line-taken ∙ e))
+
+pub trees-not-swallowed : leaves withLine1 (apply (Command.Measured 60 4) withLine1) ≡ record { survey = withLine1; refusal = 0 } → ⊥
+unfolding fresh withSpecies3 withLine1 withFourTrees
+trees-not-swallowed e = let four : _≡_ {A = ℕ} 4 0 = ap (λ (x : After). x .survey .line .n) (sym trees-taken ∙ e) in omega arith
+
+pub end-not-swallowed : leaves fresh (apply Command.End fresh) ≡ record { survey = fresh; refusal = 0 } → ⊥
+unfolding fresh finish
+end-not-swallowed e = true≢false (ap (λ (x : After). x .survey .ended) e)
+
+-- and neither the line nor the trees are told 11
+pub line-not-over : leaves withSpecies3 (apply (Command.Open 1 3 6 1) withSpecies3) ≡ record { survey = withSpecies3; refusal = 11 } → ⊥
+unfolding fresh withSpecies3
+line-not-over e = lines-below-limit 1 3 6 1 withSpecies3 withSpecies3 (lit< tt) e
+
+pub trees-not-over : leaves withLine1 (apply (Command.Measured 60 4) withLine1) ≡ record { survey = withLine1; refusal = 11 } → ⊥
+unfolding fresh withSpecies3 withLine1
+trees-not-over e = trees-below-limit 60 4 withLine1 withLine1 (lit≤ tt) e

@@ -1,0 +1,19 @@
+-- The law of this crate, in the order of document 01: the commands of a book, what each operation may decline, and what applying a command to a
+-- survey does. Each definition stands under the sentence that it states. How to read these files is said in biomass/specs/Lib.antt; besides,
+-- `x ∷ l` is the list l with x in front, `++` joins lists, `getD l i z` is what stands in l at i, counted from 0, and z past its end,
+-- `take k l` and `drop k l` are the first k of l and the rest, and `set l i x` is l with x at i.
+pub mod Refusal
+-- a command's bytes, and books
+pub mod Bytes
+pub mod Command
+pub mod Reading
+pub mod Writing
+pub mod Encoded
+pub mod Book
+-- lines and surveys
+pub mod Line
+pub mod Survey
+pub mod Valid
+pub mod Written
+-- what is proved of all this
+pub mod Law

@@ -1,0 +1,82 @@
+-- Valid surveys: what holds of a fresh survey and is kept by every command (Law.Valid), so that it holds of every survey that a book reaches.
+use Prim.Native.Nat.{ℕ, _*_, _/_, _≤_, _<_}
+use mathlib.Core.Path.{_≡_}
+use mathlib.Core.Bool.{true, false}
+use mathlib.Core.List.{List, [], _∷_}
+use lib.ListN.{length, getD, take}
+use Rattle.biomass.specs.Report.{gives}
+use Rattle.biomass.specs.Ends.{between}
+use Rattle.biomass.specs.Tree.{row}
+use Rattle.biomass.specs.Law.Report.{Inside}
+use Rattle.survey.specs.Line.{emptyRow, factorAt, treeWith}
+use Rattle.survey.specs.Survey.{speciesAt, declared, anyLine, opened, noLine}
+use Rattle.survey.specs.declared.command.Species.{Species}
+use Rattle.survey.specs.declared.row.Row.{Row}
+use Rattle.survey.specs.declared.line.Line.{Line}
+use Rattle.survey.specs.declared.survey.Survey.{Survey}
+
+-- a species in its ranges
+pub record ValidSpecies (s : Species) : Type 0 where
+  pub crown : Inside 0 (s .crown) 7
+  pub root : Inside 0 (s .root) 5
+  pub gravity : Inside 1 (s .gravity) 100
+
+-- a factor in its ranges
+pub record ValidFactor (cm factor : ℕ) : Type 0 where
+  pub whole-cm : Inside 7 cm 100
+  pub hundredths : Inside 100 factor 200
+
+-- an open line: its species is the survey's, and what is noted of it is within the limits
+pub record ValidLine (s : Survey) (l : Line) : Type 0 where
+  pub is-declared : declared (l .id) s ≡ true
+  pub species : l .species ≡ speciesAt s (l .id)
+  pub p : Inside 1 (l .p) 100000000
+  pub q : Inside 1 (l .q) 100000000
+  pub trees : l .n ≤ 1000000
+  pub squares : Inside (49 * l .n) (l .squares) (10000 * l .n)
+  pub heights : l .heights ≤ 1000
+  pub tariffs : Inside (l .heights) (l .tariffs) (50 * l .heights)
+  -- no line of the same stratum and species was closed before
+  pub first : opened (l .stratum) (l .id) s ≡ false
+
+-- the row of a line without measured trees
+pub record EmptyRow (r : Row) : Type 0 where
+  pub tariff : r .tariff ≡ 0
+  pub d : r .d ≡ 0
+  pub trees : r .trees ≡ 0
+  pub biomass : r .biomass ≡ between 0 0
+
+-- the row is what steps 4 to 7 give from its T, d and N and from the species and factors at hand
+pub record WorkedRow (s : Survey) (r : Row) : Type 0 where
+  pub is : row (r .trees) (treeWith (speciesAt s (r .species)) (r .tariff) (r .d) (factorAt (s .factors) (r .d / 10))) ≡ gives (r .biomass)
+
+pub data RowFigures (s : Survey) (r : Row) : Type 0 where
+  empty : EmptyRow r → RowFigures s r
+  worked : WorkedRow s r → RowFigures s r
+
+pub record ValidRow (s : Survey) (r : Row) : Type 0 where
+  pub is-declared : declared (r .species) s ≡ true
+  pub figures : RowFigures s r
+
+-- no two rows are of the same stratum and species
+pub data Apart : List Row → Type 0 where
+  none : Apart []
+  more : (r : Row) (l : List Row) → anyLine (r .stratum) (r .species) l ≡ false → Apart l → Apart (r ∷ l)
+
+abbrev pub rowAt : Survey → ℕ → Row
+rowAt s i = getD (s .rows) i (emptyRow noLine)
+
+pub record Valid (s : Survey) : Type 0 where
+  -- the tables are as long as the code's arrays
+  pub ids : length (s .species) ≡ 16
+  pub cms : length (s .factors) ≡ 101
+  pub places : length (s .rows) ≡ 32
+  pub species : (id : ℕ) → declared id s ≡ true → ValidSpecies (speciesAt s id)
+  pub factors : (cm : ℕ) → 0 < factorAt (s .factors) cm → ValidFactor cm (factorAt (s .factors) cm)
+  -- "32 lines": the closed ones, and the open one
+  pub lines : s .closed ≤ 32
+  pub room : s .active ≡ true → s .closed < 32
+  pub rows : (i : ℕ) → i < s .closed → ValidRow s (rowAt s i)
+  pub apart : Apart (take (s .closed) (s .rows))
+  pub line : s .active ≡ true → ValidLine s (s .line)
+  pub finished : s .ended ≡ true → s .active ≡ false

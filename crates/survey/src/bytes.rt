@@ -1,0 +1,51 @@
+// Operands of two and four bytes, high byte first.
+ghost use mathlib.Core.Path.{_≡_};
+ghost use Prim.Native.Nat.{_+_, _≤_};
+ghost use lib.ListN.{length};
+ghost use Rattle.survey.specs.Bytes.{numberAt, signed, unsigned};
+
+fn wide(x: u8) -> u16
+    ensures { λ r. ⌜ r ≡ x ⌝ }
+{
+    x as u16
+}
+
+// The number in the two bytes from a place on.
+pub(crate) fn two(s: &[u8], at: usize) -> u16
+    requires { ⌜ at + 2 ≤ length (now s) ⌝ }
+    ensures { λ r. ⌜ r ≡ numberAt 2 (now (s .entry)) at ⌝ }
+{
+    wide(s[at]) * 256 + wide(s[at + 1])
+}
+
+// The number in the four bytes from a place on.
+pub(crate) fn four(s: &[u8], at: usize) -> u32
+    requires { ⌜ at + 4 ≤ length (now s) ⌝ }
+    ensures { λ r. ⌜ r ≡ numberAt 4 (now (s .entry)) at ⌝ }
+{
+    (two(s, at) as u32) * 65_536 + (two(s, at + 2) as u32)
+}
+
+// The signed number in the four bytes from a place on.
+pub(crate) fn signed_four(s: &[u8], at: usize) -> i32
+    requires { ⌜ at + 4 ≤ length (now s) ⌝ }
+    ensures { λ r. ⌜ r ≡ signed (numberAt 4 (now (s .entry)) at) ⌝ }
+{
+    let bits = four(s, at);
+    if bits < 0x8000_0000 {
+        bits as i32
+    } else {
+        -1 - ((0xffff_ffff - bits) as i32)
+    }
+}
+
+// The 32 bits that stand for a signed number.
+pub(crate) fn bits_of(x: i32) -> u32
+    ensures { λ r. ⌜ r ≡ unsigned x ⌝ }
+{
+    if x < 0 {
+        0xffff_ffff - ((-1 - x) as u32)
+    } else {
+        x as u32
+    }
+}

@@ -1,0 +1,192 @@
+// A line: what is noted of it while it is open, and the row that it leaves.
+use super::command::Species;
+use super::refusal::Refusal;
+use super::refusal::of_figure;
+use super::row::Row;
+use biomass::answer::Biomass;
+use biomass::answer::Count;
+use biomass::mean::mean;
+use biomass::tariff::line_tariff;
+use biomass::tariff::single_tariff;
+use biomass::tree::AverageTree;
+use biomass::trees::trees;
+use biomass::units::BiomassRange;
+use biomass::units::Milligrams;
+use biomass::whole::within;
+ghost use mathlib.Core.Path.{_≡_};
+ghost use Prim.Native.Nat.{_≤_};
+ghost use Rattle.biomass.specs.Law.Report.{Inside};
+ghost use Rattle.survey.specs.Line.{noted, rowed, begun, measured, height, emptyRow, worked, lineRow};
+
+pub struct Line {
+    pub stratum: u8,
+    // The species' id, and what it was declared with.
+    pub id: u8,
+    pub species: Species,
+    pub p: u32,
+    pub q: u32,
+    // How many trees were measured, and their classes in cm, squared and added.
+    pub n: u64,
+    pub squares: u64,
+    // How many height trees there are, and their tariffs added.
+    pub heights: u64,
+    pub tariffs: u64,
+}
+
+// The line with one command more, or why not.
+pub enum Noted {
+    Is(Line),
+    Refused(Refusal),
+}
+
+// The row of a line, or why it does not close.
+pub enum Closed {
+    Is(Row),
+    Refused(Refusal),
+}
+
+impl Line {
+    // A line on which nothing is noted yet.
+    pub fn new(stratum: u8, id: u8, species: Species, p: u32, q: u32) -> Self
+        ensures { λ r. ⌜ r ≡ begun stratum id species p q ⌝ }
+    {
+        Line {
+            stratum,
+            id,
+            species,
+            p,
+            q,
+            n: 0,
+            squares: 0,
+            heights: 0,
+            tariffs: 0,
+        }
+    }
+
+    // So many trees of a class more.
+    pub fn measured(self, class: u8, count: u16) -> Noted
+        ensures { λ r. ⌜ noted r ≡ measured class count self ⌝ }
+    {
+        let cm = class as u64;
+        let trees = count as u64;
+        if !within(7, cm, 100) {
+            return Noted::Refused(Refusal::Operand);
+        }
+        if trees < 1 {
+            return Noted::Refused(Refusal::Operand);
+        }
+        if 1_000_000 - trees < self.n {
+            return Noted::Refused(Refusal::Limit);
+        }
+        let squares = trees * (cm * cm);
+        // No survey reaches a line of which this is true.
+        if 10_000_000_000 - squares < self.squares {
+            return Noted::Refused(Refusal::Operand);
+        }
+        let mut line = self;
+        line.n = self.n + trees;
+        line.squares = self.squares + squares;
+        Noted::Is(line)
+    }
+
+    // One height tree more.
+    pub fn height(self, cm: u8, tenths: u16) -> Noted
+        ensures { λ r. ⌜ noted r ≡ height cm tenths self ⌝ }
+    {
+        let s = self.species;
+        let tariff = match single_tariff(s.c1, s.c2, s.c3, s.c4, cm as u64, tenths as u64) {
+            Count::Is(t) => t,
+            Count::Refused(why) => return Noted::Refused(of_figure(why)),
+        };
+        if 1000 <= self.heights {
+            return Noted::Refused(Refusal::Limit);
+        }
+        // No survey reaches a line of which this is true.
+        if 50_000 - tariff < self.tariffs {
+            return Noted::Refused(Refusal::Operand);
+        }
+        let mut line = self;
+        line.heights = self.heights + 1;
+        line.tariffs = self.tariffs + tariff;
+        Noted::Is(line)
+    }
+
+    // The row of a line without measured trees.
+    fn empty_row(self) -> Row
+        ensures { λ r. ⌜ r ≡ emptyRow self ⌝ }
+    {
+        let none = BiomassRange {
+            low: Milligrams(0),
+            high: Milligrams(0),
+        };
+        Row {
+            stratum: self.stratum,
+            species: self.id,
+            tariff: 0,
+            d: 0,
+            trees: 0,
+            biomass: none,
+        }
+    }
+
+    // The row of a line whose tariff, mean diameter, factor and number of trees are known.
+    fn worked(self, tariff: u64, d: u64, factor: u64, number: u64) -> Closed
+        requires { ⌜ Inside 1 tariff 50 × Inside 70 d 1000 × (number ≤ 100000000) ⌝ }
+        ensures { λ r. ⌜ rowed r ≡ worked self tariff d factor number ⌝ }
+    {
+        let s = self.species;
+        let average = AverageTree {
+            tariff,
+            d,
+            factor,
+            gravity: s.gravity as u64,
+            crown: s.crown as u64,
+            root: s.root as u64,
+        };
+        let range = match biomass::tree::row(number, average) {
+            Biomass::Is(m) => m,
+            Biomass::Refused(why) => return Closed::Refused(of_figure(why)),
+        };
+        Closed::Is(Row {
+            stratum: self.stratum,
+            species: self.id,
+            tariff: tariff as u8,
+            d: d as u16,
+            trees: number as u32,
+            biomass: range,
+        })
+    }
+
+    // The line closed: its row, worked with the factor at its mean diameter.
+    pub fn row(self, factors: [u8; 101]) -> Closed
+        ensures { λ r. ⌜ rowed r ≡ lineRow factors self ⌝ }
+    {
+        if self.n == 0 {
+            return Closed::Is(self.empty_row());
+        }
+        if self.heights == 0 {
+            return Closed::Refused(Refusal::NoHeightTree);
+        }
+        let d = match mean(self.n, self.squares) {
+            Count::Is(d) => d,
+            Count::Refused(why) => return Closed::Refused(of_figure(why)),
+        };
+        let cm = (d / 10) as usize;
+        let factor = factors[cm] as u64;
+        if factor == 0 {
+            return Closed::Refused(Refusal::NoFactor);
+        }
+        let number = match trees(self.n, self.p as u64, self.q as u64) {
+            Count::Is(n) => n,
+            Count::Refused(why) => return Closed::Refused(of_figure(why)),
+        };
+        if 100_000_000 < number {
+            return Closed::Refused(Refusal::TooManyTrees);
+        }
+        let tariff = match line_tariff(self.tariffs, self.heights) {
+            Count::Is(t) => t,
+            Count::Refused(why) => return Closed::Refused(of_figure(why)),
+        };
+        self.worked(tariff, d, factor, number)
+    }
+}

@@ -1,0 +1,16 @@
+// The row that a closed line leaves.
+use biomass::units::BiomassRange;
+
+pub struct Row {
+    pub stratum: u8,
+    // The species' id.
+    pub species: u8,
+    // The line tariff T.
+    pub tariff: u8,
+    // The mean diameter d, in tenths of a cm.
+    pub d: u16,
+    // The estimated trees N, in hundredths.
+    pub trees: u32,
+    // The row's low and high.
+    pub biomass: BiomassRange,
+}

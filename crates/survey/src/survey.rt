@@ -1,0 +1,353 @@
+// The survey: what a field book has given so far. A command is applied to it, and it comes back beside the refusal.
+use super::command::Command;
+use super::command::Species;
+use super::line::Closed;
+use super::line::Line;
+use super::line::Noted;
+use super::refusal::Refusal;
+use super::row::Row;
+use biomass::units::BiomassRange;
+use biomass::units::Milligrams;
+use biomass::whole::within;
+ghost use mathlib.Core.Path.{_≡_};
+ghost use Rattle.biomass.specs.Report.{refused, gives, _then_};
+ghost use Rattle.survey.specs.Refusal.{number};
+ghost use Rattle.survey.specs.Line.{noted};
+ghost use Rattle.survey.specs.Survey.{fresh, applied, leaves, speciesInRange, declared, isLine, opened, withLine, kept, declare, giveFactor, openLine, measure, giveHeight, close, finish, apply};
+
+pub struct Survey {
+    // What each species was declared with, by its id; gravity 0: not declared.
+    pub species: [Species; 16],
+    // The factor at each whole cm, in hundredths; 0: not given.
+    pub factors: [u8; 101],
+    // The rows of the closed lines, in closing order: so many as `closed` says.
+    pub rows: [Row; 32],
+    pub closed: usize,
+    // Whether `line` is open.
+    pub active: bool,
+    pub line: Line,
+    // Whether the book has ended.
+    pub ended: bool,
+}
+
+pub enum Outcome {
+    Done,
+    Refused(Refusal),
+}
+
+// The survey after a command, and what became of the command. Where it was refused, the survey is the one given.
+pub struct Applied {
+    pub survey: Survey,
+    pub outcome: Outcome,
+}
+
+// Whether a species' operands are in their ranges. The constants may be any.
+fn species_in_range(id: u8, s: Species) -> bool
+    ensures { λ r. ⌜ r ≡ speciesInRange id s ⌝ }
+{
+    if 15 < id {
+        return false;
+    }
+    if 7 < s.crown {
+        return false;
+    }
+    if 5 < s.root {
+        return false;
+    }
+    within(1, s.gravity as u64, 100)
+}
+
+// Whether a row is that of a line of this stratum and species.
+fn is_line(row: Row, stratum: u8, id: u8) -> bool
+    ensures { λ r. ⌜ r ≡ isLine stratum id row ⌝ }
+{
+    if row.stratum == stratum {
+        row.species == id
+    } else {
+        false
+    }
+}
+
+impl Survey {
+    // A survey of which nothing is known yet.
+    pub fn new() -> Self
+        ensures { λ r. ⌜ r ≡ fresh ⌝ }
+    {
+        let undeclared = Species {
+            crown: 0,
+            root: 0,
+            gravity: 0,
+            c1: 0,
+            c2: 0,
+            c3: 0,
+            c4: 0,
+        };
+        let none = BiomassRange {
+            low: Milligrams(0),
+            high: Milligrams(0),
+        };
+        let empty = Row {
+            stratum: 0,
+            species: 0,
+            tariff: 0,
+            d: 0,
+            trees: 0,
+            biomass: none,
+        };
+        let species = [undeclared; 16];
+        let factors = [0u8; 101];
+        let rows = [empty; 32];
+        Survey {
+            species,
+            factors,
+            rows,
+            closed: 0,
+            active: false,
+            line: Line::new(0, 0, undeclared, 0, 0),
+            ended: false,
+        }
+    }
+
+    fn refuse(self, why: Refusal) -> Applied
+        ensures { λ r. ⌜ applied r ≡ leaves self (refused (number why)) ⌝ }
+    {
+        Applied {
+            survey: self,
+            outcome: Outcome::Refused(why),
+        }
+    }
+
+    // 01: declares a species.
+    pub fn declare(self, id: u8, species: Species) -> Applied
+        ensures { λ r. ⌜ applied r ≡ leaves self (declare id species self) ⌝ }
+    {
+        if self.ended {
+            return self.refuse(Refusal::Ended);
+        }
+        if !species_in_range(id, species) {
+            return self.refuse(Refusal::Operand);
+        }
+        if self.is_declared(id) {
+            return self.refuse(Refusal::AlreadyGiven);
+        }
+        let i = id as usize;
+        let mut survey = self;
+        survey.species[i] = species;
+        Applied {
+            survey,
+            outcome: Outcome::Done,
+        }
+    }
+
+    // 02: gives the factor at a whole cm.
+    pub fn factor(self, cm: u8, factor: u8) -> Applied
+        ensures { λ r. ⌜ applied r ≡ leaves self (giveFactor cm factor self) ⌝ }
+    {
+        if self.ended {
+            return self.refuse(Refusal::Ended);
+        }
+        if !within(7, cm as u64, 100) {
+            return self.refuse(Refusal::Operand);
+        }
+        if !within(100, factor as u64, 200) {
+            return self.refuse(Refusal::Operand);
+        }
+        let i = cm as usize;
+        if 0 < self.factors[i] {
+            return self.refuse(Refusal::AlreadyGiven);
+        }
+        let mut survey = self;
+        survey.factors[i] = factor;
+        Applied {
+            survey,
+            outcome: Outcome::Done,
+        }
+    }
+
+    // Whether a species is declared. None is above 15.
+    fn is_declared(self, id: u8) -> bool
+        ensures { λ r. ⌜ r ≡ declared id self ⌝ }
+    {
+        let i = id as usize;
+        if 15 < i {
+            return false;
+        }
+        let species = self.species[i];
+        0 < species.gravity
+    }
+
+    // Whether a line of this stratum and species was closed before.
+    fn has_row(self, stratum: u8, id: u8) -> bool
+        ensures { λ r. ⌜ r ≡ opened stratum id self ⌝ }
+    {
+        let mut i: usize = 0;
+        while i < 32 {
+            if self.closed <= i {
+                return false;
+            }
+            let row = self.rows[i];
+            if is_line(row, stratum, id) {
+                return true;
+            }
+            i += 1;
+        }
+        false
+    }
+
+    // 03: opens a line.
+    pub fn open_line(self, stratum: u8, id: u8, p: u32, q: u32) -> Applied
+        ensures { λ r. ⌜ applied r ≡ leaves self (openLine stratum id p q self) ⌝ }
+    {
+        if self.ended {
+            return self.refuse(Refusal::Ended);
+        }
+        if !within(1, p as u64, 100_000_000) {
+            return self.refuse(Refusal::Operand);
+        }
+        if !within(1, q as u64, 100_000_000) {
+            return self.refuse(Refusal::Operand);
+        }
+        if self.active {
+            return self.refuse(Refusal::LineOpen);
+        }
+        if !self.is_declared(id) {
+            return self.refuse(Refusal::Undeclared);
+        }
+        if self.has_row(stratum, id) {
+            return self.refuse(Refusal::AlreadyGiven);
+        }
+        if 32 <= self.closed {
+            return self.refuse(Refusal::Limit);
+        }
+        let i = id as usize;
+        let species = self.species[i];
+        let line = Line::new(stratum, id, species, p, q);
+        let mut survey = self;
+        survey.line = line;
+        survey.active = true;
+        Applied {
+            survey,
+            outcome: Outcome::Done,
+        }
+    }
+
+    // The survey with what became of its line.
+    fn note(self, answer: Noted) -> Applied
+        ensures { λ r. ⌜ applied r ≡ leaves self (noted answer then λ l. gives (withLine self l)) ⌝ }
+    {
+        match answer {
+            Noted::Is(line) => {
+                let mut survey = self;
+                survey.line = line;
+                Applied {
+                    survey,
+                    outcome: Outcome::Done,
+                }
+            }
+            Noted::Refused(why) => self.refuse(why),
+        }
+    }
+
+    // 04: measured trees of the open line.
+    pub fn measured(self, class: u8, count: u16) -> Applied
+        ensures { λ r. ⌜ applied r ≡ leaves self (measure class count self) ⌝ }
+    {
+        if self.ended {
+            return self.refuse(Refusal::Ended);
+        }
+        if !self.active {
+            return self.refuse(Refusal::NoLine);
+        }
+        let line = self.line;
+        self.note(line.measured(class, count))
+    }
+
+    // 05: a height tree of the open line.
+    pub fn height(self, cm: u8, tenths: u16) -> Applied
+        ensures { λ r. ⌜ applied r ≡ leaves self (giveHeight cm tenths self) ⌝ }
+    {
+        if self.ended {
+            return self.refuse(Refusal::Ended);
+        }
+        if !self.active {
+            return self.refuse(Refusal::NoLine);
+        }
+        let line = self.line;
+        self.note(line.height(cm, tenths))
+    }
+
+    // The survey with a row more, and no line open.
+    fn keep(self, row: Row) -> Applied
+        ensures { λ r. ⌜ applied r ≡ leaves self (kept row self) ⌝ }
+    {
+        let at = self.closed;
+        // No survey reaches this with a line open.
+        if 32 <= at {
+            return self.refuse(Refusal::Limit);
+        }
+        let mut survey = self;
+        survey.rows[at] = row;
+        survey.closed = at + 1;
+        survey.active = false;
+        Applied {
+            survey,
+            outcome: Outcome::Done,
+        }
+    }
+
+    // 06: closes the line and keeps its row.
+    pub fn close(self) -> Applied
+        ensures { λ r. ⌜ applied r ≡ leaves self (close self) ⌝ }
+    {
+        if self.ended {
+            return self.refuse(Refusal::Ended);
+        }
+        if !self.active {
+            return self.refuse(Refusal::NoLine);
+        }
+        let line = self.line;
+        let factors = self.factors;
+        match line.row(factors) {
+            Closed::Is(row) => self.keep(row),
+            Closed::Refused(why) => self.refuse(why),
+        }
+    }
+
+    // 07: ends the book.
+    pub fn end(self) -> Applied
+        ensures { λ r. ⌜ applied r ≡ leaves self (finish self) ⌝ }
+    {
+        if self.ended {
+            return self.refuse(Refusal::Ended);
+        }
+        if self.active {
+            return self.refuse(Refusal::LineOpen);
+        }
+        let mut survey = self;
+        survey.ended = true;
+        Applied {
+            survey,
+            outcome: Outcome::Done,
+        }
+    }
+
+    // Any command.
+    pub fn apply(self, command: Command) -> Applied
+        ensures { λ r. ⌜ applied r ≡ leaves self (apply command self) ⌝ }
+    {
+        match command {
+            Command::Species(id, species) => self.declare(id, species),
+            Command::Factor { cm, factor } => self.factor(cm, factor),
+            Command::Open {
+                stratum,
+                species,
+                p,
+                q,
+            } => self.open_line(stratum, species, p, q),
+            Command::Measured { class, count } => self.measured(class, count),
+            Command::Height { cm, tenths } => self.height(cm, tenths),
+            Command::Close => self.close(),
+            Command::End => self.end(),
+        }
+    }
+}
