@@ -1,16 +1,21 @@
-//! Tests of the proved library from outside: against an implementation of document 01 that shares nothing
-//! with it, against exact arithmetic, and against the protocol's worked figures.
+//! Tests of the proved libraries from outside: against an implementation of document 01 that shares nothing
+//! with them, against exact arithmetic, and against the protocol's worked figures.
 //!
 //! `outside` runs every check. `outside figures` prints the library's crowns and roots for power_table.py.
 mod agree;
+mod book;
 mod exact;
 mod natural;
+mod play;
 mod powers;
 mod protocol;
 mod proved;
 mod random;
+mod replay;
 mod report;
 mod steps;
+mod streams;
+mod survey;
 mod worked;
 
 use std::process::ExitCode;
@@ -22,6 +27,7 @@ fn main() -> ExitCode {
             worked::run(&mut report);
             agree::run(&mut report);
             exact::run(&mut report);
+            replay::run(&mut report);
             if report.finish() {
                 ExitCode::SUCCESS
             } else {

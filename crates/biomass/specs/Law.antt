@@ -6,6 +6,7 @@
 --     Mean: mean-gives, mean-is, mean-only    a mean that is given is step 2's d, the only one, and 70 to 1000
 --     Tariff: single-tariff-range, line-tariff-range      a tariff that is given is 1 to 50
 --     Answers                                 operands in their ranges are answered, and with what
+--     Declines                                a figure is declined with 6 alone, and a single tariff with 6 or 13
 --     Fraction                                sums, shares and the order of fractions
 
 -- numbers: greatest, root and div; differences of naturals
@@ -25,6 +26,7 @@ pub mod Crown
 pub mod Root
 pub mod Tree
 pub mod Answers
+pub mod Declines
 -- the exact value
 pub mod Fraction
 pub mod StemExact

@@ -2,12 +2,12 @@
 -- (Law.Report of `biomass` has these for `if !answer`.)
 use Prim.Native.Nat.{ℕ, _+_, _-_, _≤_, _<_, zero-le}
 use lib.Dec.{leb}
-use mathlib.Core.Path.{_≡_, _∙_, refl, sym, ap}
-use mathlib.Core.Bool.{Bool, true, false, cond}
+use mathlib.Core.Path.{_≡_, _∙_, sym, ap}
+use mathlib.Core.Bool.{Bool, true, false}
 use native.Mathlib.Omega.{arith}
 use borrow.Author.Tests.{le-leb, lt-leb}
 use Rattle.biomass.specs.Whole.{inside}
-use Rattle.biomass.specs.Law.Report.{true-inside, inside-true}
+use Rattle.biomass.specs.Law.Report.{true-inside, inside-true, both-true}
 use Rattle.biomass.specs.Report.{Report, refused, unless}
 use Rattle.survey.specs.Refusal.{when}
 use Rattle.survey.specs.Survey.{speciesInRange, declared}
@@ -34,15 +34,11 @@ pub above : (x hi : ℕ) → hi < x → inside 0 x hi ≡ false
 above x hi h = simp (le-leb 0 x zero-le, lt-leb x hi h)
 
 -- no species in range, and none that is declared, has an id above 15
-both : (a b : Bool) → cond a b false ≡ true → a ≡ true
-both true b e = refl
-both false b e = e
-
 pub id-in-range : (id : ℕ) (s : Species) → speciesInRange id s ≡ true → id < 16
-id-in-range id s e = let range = inside-true 0 id 15 (both _ _ e) in omega arith
+id-in-range id s e = let range = inside-true 0 id 15 (both-true _ _ e .0) in omega arith
 
 pub id-declared : (id : ℕ) (s : Survey) → declared id s ≡ true → id < 16
-id-declared id s e = let range = inside-true 0 id 15 (both _ _ e) in omega arith
+id-declared id s e = let range = inside-true 0 id 15 (both-true _ _ e .0) in omega arith
 
 -- whether x + y is at most a limit, as the code asks it without the sum
 pub over : (x y most : ℕ) → y ≤ most → most - y < x → leb (x + y) most ≡ false

@@ -1,8 +1,9 @@
 -- What is proved of the definitions, each law once, for this crate's proofs and for the layer above.
 --     RoundTrip: write-read, read-write       what is written is read back, and what is read and written again is the same bytes
+--     RoundTrip: reads-back, writes-back      the same as the promises of writing and reading say it, where they refuse too
 --     Book: read-all-encoded, encoded-read-all    the same of whole books: a list's encoding reads back as the list, and a book that reads through is its list's encoding
 --     Valid: fresh-valid, apply-valid         a fresh survey is valid, and every command keeps a survey so
---     Written: as-written                     of a valid survey, applying is document 01's text, with no refusal but those that it names
+--     AsWritten: as-written                   of a valid survey, applying is document 01's text, with no refusal but those that it names
 --     Limit: limit-told                       11 is told only at the limit, of any survey
 --     Once: species-stay, factors-stay, rows-stay     what is given once never changes
 --     Witness                                 two wrong programs, and that the promises contradict them
@@ -18,5 +19,5 @@ pub mod Taken
 pub mod Once
 pub mod Limit
 pub mod Valid
-pub mod Written
+pub mod AsWritten
 pub mod Witness

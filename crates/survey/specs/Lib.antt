@@ -9,11 +9,12 @@ pub mod Command
 pub mod Reading
 pub mod Writing
 pub mod Encoded
+pub mod RoundTrip
 pub mod Book
 -- lines and surveys
 pub mod Line
 pub mod Survey
 pub mod Valid
-pub mod Written
+pub mod AsWritten
 -- what is proved of all this
 pub mod Law

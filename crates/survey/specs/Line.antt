@@ -1,9 +1,9 @@
 -- A line: what is noted of it while it is open, and the row that it leaves. "n is the line's measured count, S the sum of count times class squared."
 use Prim.Native.Nat.{ℕ, _+_, _*_, _/_}
-use mathlib.Core.Bool.{Bool, cond}
+use mathlib.Core.Bool.{cond}
 use mathlib.Core.List.{List}
 use lib.ListN.{getD}
-use lib.Dec.{leb, ltb, eqb}
+use lib.Dec.{leb, eqb}
 use Rattle.biomass.specs.Whole.{inside}
 use Rattle.biomass.specs.Report.{Report, refused, gives, unless, _then_}
 use Rattle.biomass.specs.Tariff.{singleTariff, lineTariff}
@@ -53,7 +53,7 @@ begun stratum id s p q =
 abbrev pub withTrees : ℕ → ℕ → Line → Line
 withTrees class count l = lineWith l (l .n + count) (l .squares + count * (class * class)) (l .heights) (l .tariffs)
 
--- The last check is not document 01's: it declines a line that no survey reaches (Law.Written), whose S is above what 1,000,000 trees can have
+-- The last check is not document 01's: it declines a line that no survey reaches (Law.AsWritten), whose S is above what 1,000,000 trees can have
 unfoldable pub measured : ℕ → ℕ → Line → Report Line
 measured class count l =
     unless (inside 7 class 100) 6

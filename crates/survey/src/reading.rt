@@ -8,6 +8,7 @@ use super::refusal::Refusal;
 ghost use mathlib.Core.Path.{_≡_};
 ghost use Prim.Native.Nat.{_≤_};
 ghost use lib.ListN.{length};
+ghost use Rattle.survey.specs.RoundTrip.{WritesBack};
 ghost use Rattle.survey.specs.Reading.{reading, read, speciesFrom, factorFrom, openFrom, measuredFrom, heightFrom};
 
 // The command and the place after it, or why there is none.
@@ -95,7 +96,8 @@ fn read_height(book: &[u8], from: usize) -> Reading
 
 // The command at a place of a book.
 pub fn read(book: &[u8], at: usize) -> Reading
-    ensures { λ r. ⌜ reading r ≡ read (now (book .entry)) at ⌝ }
+    ensures answer { λ r. ⌜ reading r ≡ read (now (book .entry)) at ⌝ }
+    ensures again { λ r. ⌜ WritesBack (now (book .entry)) at (reading r) ⌝ }
 {
     if book.len() <= at {
         return Reading::Refused(Refusal::AtEnd);

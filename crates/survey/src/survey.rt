@@ -10,10 +10,12 @@ use biomass::units::BiomassRange;
 use biomass::units::Milligrams;
 use biomass::whole::within;
 ghost use mathlib.Core.Path.{_≡_};
+ghost use Prim.Native.Nat.{_<_};
+ghost use lib.ListN.{set};
 ghost use Rattle.biomass.specs.Report.{refused, gives, _then_};
 ghost use Rattle.survey.specs.Refusal.{number};
-ghost use Rattle.survey.specs.Line.{noted};
-ghost use Rattle.survey.specs.Survey.{fresh, applied, leaves, speciesInRange, declared, isLine, opened, withLine, kept, declare, giveFactor, openLine, measure, giveHeight, close, finish, apply};
+ghost use Rattle.survey.specs.Line.{noted, factorAt};
+ghost use Rattle.survey.specs.Survey.{fresh, outcome, applied, leaves, speciesInRange, declared, isLine, opened, speciesAt, withSpecies, withFactors, withLine, kept, declare, giveFactor, openLine, measure, giveHeight, close, finish, apply};
 
 pub struct Survey {
     // What each species was declared with, by its id; gravity 0: not declared.
@@ -41,17 +43,29 @@ pub struct Applied {
     pub outcome: Outcome,
 }
 
+impl Outcome {
+    // Document 01's number of the refusal, and 0 where there is none.
+    pub fn number(self) -> u8
+        ensures { λ r. ⌜ r ≡ outcome self ⌝ }
+    {
+        match self {
+            Outcome::Done => 0,
+            Outcome::Refused(why) => why.number(),
+        }
+    }
+}
+
 // Whether a species' operands are in their ranges. The constants may be any.
 fn species_in_range(id: u8, s: Species) -> bool
     ensures { λ r. ⌜ r ≡ speciesInRange id s ⌝ }
 {
-    if 15 < id {
+    if id > 15 {
         return false;
     }
-    if 7 < s.crown {
+    if s.crown > 7 {
         return false;
     }
-    if 5 < s.root {
+    if s.root > 5 {
         return false;
     }
     within(1, s.gravity as u64, 100)
@@ -117,6 +131,42 @@ impl Survey {
         }
     }
 
+    fn species_at(self, id: u8) -> Species
+        requires { ⌜ id < 16 ⌝ }
+        ensures { λ r. ⌜ r ≡ speciesAt self id ⌝ }
+    {
+        let i = id as usize;
+        self.species[i]
+    }
+
+    fn with_species(self, id: u8, species: Species) -> Survey
+        requires { ⌜ id < 16 ⌝ }
+        ensures { λ r. ⌜ r ≡ withSpecies self (set (self .species) id species) ⌝ }
+    {
+        let i = id as usize;
+        let mut survey = self;
+        survey.species[i] = species;
+        survey
+    }
+
+    fn factor_at(self, cm: u8) -> u8
+        requires { ⌜ cm < 101 ⌝ }
+        ensures { λ r. ⌜ r ≡ factorAt (self .factors) cm ⌝ }
+    {
+        let i = cm as usize;
+        self.factors[i]
+    }
+
+    fn with_factor(self, cm: u8, factor: u8) -> Survey
+        requires { ⌜ cm < 101 ⌝ }
+        ensures { λ r. ⌜ r ≡ withFactors self (set (self .factors) cm factor) ⌝ }
+    {
+        let i = cm as usize;
+        let mut survey = self;
+        survey.factors[i] = factor;
+        survey
+    }
+
     // 01: declares a species.
     pub fn declare(self, id: u8, species: Species) -> Applied
         ensures { λ r. ⌜ applied r ≡ leaves self (declare id species self) ⌝ }
@@ -130,11 +180,8 @@ impl Survey {
         if self.is_declared(id) {
             return self.refuse(Refusal::AlreadyGiven);
         }
-        let i = id as usize;
-        let mut survey = self;
-        survey.species[i] = species;
         Applied {
-            survey,
+            survey: self.with_species(id, species),
             outcome: Outcome::Done,
         }
     }
@@ -152,14 +199,11 @@ impl Survey {
         if !within(100, factor as u64, 200) {
             return self.refuse(Refusal::Operand);
         }
-        let i = cm as usize;
-        if 0 < self.factors[i] {
+        if 0 < self.factor_at(cm) {
             return self.refuse(Refusal::AlreadyGiven);
         }
-        let mut survey = self;
-        survey.factors[i] = factor;
         Applied {
-            survey,
+            survey: self.with_factor(cm, factor),
             outcome: Outcome::Done,
         }
     }
@@ -168,11 +212,10 @@ impl Survey {
     fn is_declared(self, id: u8) -> bool
         ensures { λ r. ⌜ r ≡ declared id self ⌝ }
     {
-        let i = id as usize;
-        if 15 < i {
+        if 15 < id {
             return false;
         }
-        let species = self.species[i];
+        let species = self.species_at(id);
         0 < species.gravity
     }
 
@@ -219,9 +262,7 @@ impl Survey {
         if 32 <= self.closed {
             return self.refuse(Refusal::Limit);
         }
-        let i = id as usize;
-        let species = self.species[i];
-        let line = Line::new(stratum, id, species, p, q);
+        let line = Line::new(stratum, id, self.species_at(id), p, q);
         let mut survey = self;
         survey.line = line;
         survey.active = true;

@@ -6,12 +6,13 @@ use super::refusal::Refusal;
 ghost use mathlib.Core.Path.{_≡_};
 ghost use mathlib.Core.List.{[], _∷_, _++_};
 ghost use Prim.Native.Nat.{_+_, _≤_};
-ghost use lib.ListN.{length, take};
+ghost use lib.ListN.{length};
 ghost use lib.Seq.{paste};
-ghost use Rattle.survey.specs.Bytes.{bytes, unsigned};
-ghost use Rattle.survey.specs.Command.{encode};
+ghost use Rattle.survey.specs.Bytes.{bytes};
+ghost use Rattle.survey.specs.Command.{encode, Fits};
 ghost use Rattle.survey.specs.Writing.{writing, write, bufferAfter};
-ghost use Rattle.survey.specs.Encoded.{Holds, Grown};
+ghost use Rattle.survey.specs.Encoded.{held};
+ghost use Rattle.survey.specs.RoundTrip.{ReadsBack};
 
 // The place after what was written, or why nothing was.
 pub enum Written {
@@ -27,7 +28,7 @@ struct Encoded {
 
 impl Encoded {
     fn new(code: u8) -> Self
-        ensures { λ r. ⌜ Holds r (code ∷ []) ⌝ }
+        ensures { λ r. ⌜ (held r ≡ code ∷ []) × (r .length ≡ 1) ⌝ }
     {
         let mut bytes = [0u8; 21];
         bytes[0] = code;
@@ -36,7 +37,7 @@ impl Encoded {
 
     fn one(self, x: u8) -> Encoded
         requires { ⌜ self .length + 1 ≤ 21 ⌝ }
-        ensures { λ r. ⌜ Grown self r (x ∷ []) ⌝ }
+        ensures { λ r. ⌜ (held r ≡ held self ++ (x ∷ [])) × (r .length ≡ self .length + 1) ⌝ }
     {
         let at = self.length;
         let mut e = self;
@@ -47,14 +48,14 @@ impl Encoded {
 
     fn two(self, x: u16) -> Encoded
         requires { ⌜ self .length + 2 ≤ 21 ⌝ }
-        ensures { λ r. ⌜ Grown self r (bytes 2 x) ⌝ }
+        ensures { λ r. ⌜ (held r ≡ held self ++ bytes 2 x) × (r .length ≡ self .length + 2) ⌝ }
     {
         self.one((x / 256 % 256) as u8).one((x % 256) as u8)
     }
 
     fn four(self, x: u32) -> Encoded
         requires { ⌜ self .length + 4 ≤ 21 ⌝ }
-        ensures { λ r. ⌜ Grown self r (bytes 4 x) ⌝ }
+        ensures { λ r. ⌜ (held r ≡ held self ++ bytes 4 x) × (r .length ≡ self .length + 4) ⌝ }
     {
         self.two((x / 65_536 % 65_536) as u16)
             .two((x % 65_536) as u16)
@@ -62,7 +63,7 @@ impl Encoded {
 }
 
 fn encode_species(id: u8, s: Species) -> Encoded
-    ensures { λ r. ⌜ Holds r (encode (Command.Species id s)) ⌝ }
+    ensures { λ r. ⌜ (held r ≡ encode (Command.Species id s)) × (r .length ≡ 21) ⌝ }
 {
     Encoded::new(0x01)
         .one(id)
@@ -76,7 +77,7 @@ fn encode_species(id: u8, s: Species) -> Encoded
 }
 
 fn encode(command: Command) -> Encoded
-    ensures { λ r. ⌜ Holds r (encode command) ⌝ }
+    ensures { λ r. ⌜ (held r ≡ encode command) × (r .length ≡ length (encode command)) × Fits command ⌝ }
 {
     match command {
         Command::Species(id, s) => encode_species(id, s),
@@ -110,6 +111,7 @@ fn lay(buffer: &mut [u8], at: usize, bytes: [u8; 21], n: usize)
 pub fn write(buffer: &mut [u8], at: usize, command: Command) -> Written
     ensures answer { λ r. ⌜ writing r ≡ write (now (buffer .entry)) at command ⌝ }
     ensures laid { λ _. ⌜ now (buffer .exit) ≡ bufferAfter (now (buffer .entry)) at command ⌝ }
+    ensures back { λ r. ⌜ ReadsBack (now (buffer .exit)) at command (writing r) ⌝ }
 {
     let e = encode(command);
     let n = e.length;

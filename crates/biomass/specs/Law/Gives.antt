@@ -14,18 +14,23 @@ never e = let clash : _≡_ {A = ℕ} 0 1 = cc in absurd (omega arith)
 pub figure-is : {A : Type 0} {a b : A} → _≡_ {A = Report A} (gives a) (gives b) → a ≡ b
 figure-is e = cc
 
--- a range check before the rest of a report that gives a
+-- and is refused with one number
+pub number-is : {A : Type 0} {n m : ℕ} → _≡_ {A = Report A} (refused n) (refused m) → n ≡ m
+number-is e = cc
+
+-- a check before the rest of a report that gives a
+pub test-passed : {A : Type 0} (test : Bool) (n : ℕ) (rest : Report A) {a : A} → unless test n rest ≡ gives a → (test ≡ true) × (rest ≡ gives a)
+test-passed true n rest e = (refl, e)
+test-passed false n rest e = never e
+
+-- the same of a range check
 pub record Passed {A : Type 0} (lo x hi : ℕ) (rest : Report A) (a : A) : Type 0 where
   pub in-range : Inside lo x hi
   pub next : rest ≡ gives a
 
-both : {A : Type 0} (test : Bool) (n : ℕ) (rest : Report A) {a : A} → unless test n rest ≡ gives a → (test ≡ true) × (rest ≡ gives a)
-both true n rest e = (refl, e)
-both false n rest e = never e
-
 pub passed : {A : Type 0} (lo x hi n : ℕ) (rest : Report A) {a : A} → unless (inside lo x hi) n rest ≡ gives a → Passed lo x hi rest a
 passed lo x hi n rest e =
-    let b = both (inside lo x hi) n rest e in
+    let b = test-passed (inside lo x hi) n rest e in
     record { in-range = inside-true lo x hi (b .0); next = b .1 }
 
 -- a report before one that is made of its figure and gives b

@@ -19,13 +19,14 @@ pub record Inside (lo x hi : ℕ) : Type 0 where
   pub least : lo ≤ x
   pub most : x ≤ hi
 
-both : (s t : Bool) → cond s t false ≡ true → (s ≡ true) × (t ≡ true)
-both true t e = (refl, e)
-both false t e = absurd (false≢true e)
+-- a test of two parts
+pub both-true : (s t : Bool) → cond s t false ≡ true → (s ≡ true) × (t ≡ true)
+both-true true t e = (refl, e)
+both-true false t e = absurd (false≢true e)
 
 pub inside-true : (lo x hi : ℕ) → inside lo x hi ≡ true → Inside lo x hi
 inside-true lo x hi e =
-    let b = both (leb lo x) (leb x hi) e in
+    let b = both-true (leb lo x) (leb x hi) e in
     record { least = leb-true lo x (b .0); most = leb-true x hi (b .1) }
 
 -- what the code knows past a test

@@ -26,6 +26,7 @@ use lib.ListN.{length, take, drop, length-append}
 use lib.Seq.{append-snoc, getD-append-seam, drop-cons}
 use lib.Dec.{ltb}
 use lib.IntN.{ℤ, pos, negsuc}
+use lib.Signed.{mag}
 use borrow.Author.Tests.{lt-ltb, le-ltb, ltb-true, ltb-false}
 use Rattle.survey.specs.Bytes.{byte, AllBytes, numberAt, bytes, signed, unsigned}
 use Rattle.survey.specs.Command.{FitsFour}
@@ -138,6 +139,11 @@ bytes-of-number (suc k) s i all =
     before first rest
 
 -- ---- "4 each, signed"
+
+-- every signed number of 32 bits fits
+pub mag-fits : (z : ℤ) → mag z < 2 ^ 31 → FitsFour z
+mag-fits (pos n) h = h
+mag-fits (negsuc n) h = h
 
 pub unsigned-fits : (z : ℤ) → FitsFour z → unsigned z < 4294967296
 unsigned-fits (pos n) h = omega arith

@@ -2,13 +2,13 @@
 -- refused; when two reports with the same checks are the same; and what the tests of two or more parts say.
 use Prim.Native.Nat.{ℕ, zero, suc, _≤_, _<_, zero-le}
 use mathlib.Core.Path.{_≡_, _∙_, refl, sym, ap, ap₂}
-use mathlib.Core.Bool.{Bool, true, false, cond, false≢true}
+use mathlib.Core.Bool.{Bool, true, false, cond}
 use lib.Dec.{ltb, eqb, eqb·zero-suc, eqb·suc-zero, eqb·suc-suc}
 use borrow.Author.Tests.{ltb-true, lt-ltb, eqb-false}
 use Rattle.biomass.specs.Whole.{inside}
 use Rattle.biomass.specs.Report.{Report, refused, gives, unless, _then_}
-use Rattle.biomass.specs.Law.Report.{Inside, inside-true, true-inside}
-use Rattle.biomass.specs.Law.Gives.{never}
+use Rattle.biomass.specs.Law.Report.{Inside, inside-true, true-inside, both-true}
+use Rattle.biomass.specs.Law.Gives.{never, number-is, test-passed}
 use Rattle.survey.specs.Refusal.{when}
 use Rattle.survey.specs.Survey.{speciesAt, speciesInRange, declared, isLine}
 use Rattle.survey.specs.Valid.{ValidSpecies}
@@ -28,8 +28,7 @@ when-gives true n rest e = never e
 when-gives false n rest e = record { test-is = refl; next = e }
 
 pub unless-gives : {A : Type 0} (test : Bool) (n : ℕ) (rest : Report A) {a : A} → unless test n rest ≡ gives a → Past test true rest (gives a)
-unless-gives true n rest e = record { test-is = refl; next = e }
-unless-gives false n rest e = never e
+unless-gives test n rest e = let t = test-passed test n rest e in record { test-is = t .0; next = t .1 }
 
 pub cond-gives : {A X : Type 0} (test : Bool) (r q : Report A) {a : A} → cond test r q ≡ gives a → (r ≡ gives a → X) → (q ≡ gives a → X) → X
 cond-gives true r q e f g = f e
@@ -39,9 +38,6 @@ cond-gives false r q e f g = g e
 pub data Stopped {A : Type 0} (test fails passes : Bool) (n m : ℕ) (rest : Report A) : Type 0 where
   here : test ≡ fails → n ≡ m → Stopped test fails passes n m rest
   later : Past test passes rest (refused m) → Stopped test fails passes n m rest
-
-number-is : {A : Type 0} {n m : ℕ} → _≡_ {A = Report A} (refused n) (refused m) → n ≡ m
-number-is e = cc
 
 pub when-refused : {A : Type 0} (test : Bool) (n : ℕ) (rest : Report A) {m : ℕ} → when test n rest ≡ refused m → Stopped test true false n m rest
 when-refused true n rest e = here refl (number-is e)
@@ -105,10 +101,6 @@ module _ {A B : Type 0} (f : A → Report B) where
 
 -- ---- tests of two parts
 
-both : (s t : Bool) → cond s t false ≡ true → (s ≡ true) × (t ≡ true)
-both true t e = (refl, e)
-both false t e = absurd (false≢true e)
-
 -- an id up to 15 with a gravity that is not 0
 pub record Declared (id : ℕ) (s : Survey) : Type 0 where
   pub in-table : id ≤ 15
@@ -116,7 +108,7 @@ pub record Declared (id : ℕ) (s : Survey) : Type 0 where
 
 pub declared-true : (id : ℕ) (s : Survey) → declared id s ≡ true → Declared id s
 declared-true id s e =
-    let b = both (inside 0 id 15) (ltb 0 (speciesAt s id .gravity)) e in
+    let b = both-true (inside 0 id 15) (ltb 0 (speciesAt s id .gravity)) e in
     record { in-table = inside-true 0 id 15 (b .0) .most; gravity = ltb-true 0 (speciesAt s id .gravity) (b .1) }
 
 pub true-declared : (id : ℕ) (s : Survey) → Declared id s → declared id s ≡ true
@@ -130,9 +122,9 @@ declared-as id s t e = ap (λ (x : Species). cond (inside 0 id 15) (ltb 0 (x .gr
 
 pub species-in-range : (id : ℕ) (s : Species) → speciesInRange id s ≡ true → Inside 0 id 15 × ValidSpecies s
 species-in-range id s e =
-    let i = both (inside 0 id 15) _ e in
-    let c = both (inside 0 (s .crown) 7) _ (i .1) in
-    let r = both (inside 0 (s .root) 5) _ (c .1) in (
+    let i = both-true (inside 0 id 15) _ e in
+    let c = both-true (inside 0 (s .crown) 7) _ (i .1) in
+    let r = both-true (inside 0 (s .root) 5) _ (c .1) in (
       inside-true 0 id 15 (i .0),
       record {
         crown = inside-true 0 (s .crown) 7 (c .0);

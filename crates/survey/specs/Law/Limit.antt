@@ -4,23 +4,19 @@ use Prim.Native.Nat.{ℕ, _+_, _*_, _/_, _≤_, _<_}
 use native.Mathlib.Omega.{arith}
 use mathlib.Core.Path.{_≡_, refl, sym}
 use mathlib.Core.Bool.{Bool, true, false, cond}
+use mathlib.Core.Logic.{⊎-elim}
 use mathlib.Core.List.{List}
 use lib.ListN.{set}
 use lib.Dec.{leb, ltb, eqb}
-use lib.IntN.{ℤ, pos, negsuc}
 use borrow.Author.Tests.{leb-true, leb-false}
 use Rattle.biomass.specs.Report.{Report, refused, gives, unless, _then_}
-use Rattle.biomass.specs.Whole.{_div_, inside}
-use Rattle.biomass.specs.Tariff.{tariffSum, fromOneToFifty, singleTariff, lineTariff}
-use Rattle.biomass.specs.Mean.{meanOf, mean, dInRange}
-use Rattle.biomass.specs.Trees.{treesOf, trees}
-use Rattle.biomass.specs.Ends.{range}
-use Rattle.biomass.specs.Stem.{stemEnds, stem}
-use Rattle.biomass.specs.Crown.{crownEnds, crown}
-use Rattle.biomass.specs.Root.{rootEnds, root}
-use Rattle.biomass.specs.Tree.{added, tree, rowOf, row}
-use Rattle.biomass.specs.declared.tree.AverageTree.{AverageTree}
+use Rattle.biomass.specs.Whole.{inside}
+use Rattle.biomass.specs.Tariff.{lineTariff}
+use Rattle.biomass.specs.Mean.{mean}
+use Rattle.biomass.specs.Trees.{trees}
+use Rattle.biomass.specs.Tree.{row}
 use Rattle.biomass.specs.Law.Gives.{never}
+use Rattle.biomass.specs.Law.Declines.{Declines, Six, SixOrThirteen, single-tariff-declines, line-tariff-declines, mean-declines, trees-declines, row-declines}
 use Rattle.survey.specs.Refusal.{when}
 use Rattle.survey.specs.Line.{begun, withTrees, measured, withHeight, tariffOf, height, emptyRow, rowWith, treeWith, worked, factorAt, lineRow}
 use Rattle.survey.specs.Survey.{speciesAt, withSpecies, withFactors, withLine, withOpened, withRow, withEnd, speciesInRange, declared, declare, giveFactor, opened, openLine, measure, giveHeight, kept, close, finish, apply}
@@ -89,57 +85,12 @@ cond-not : {A : Type 0} (test : Bool) (r q : Report A) → NotEleven r → NotEl
 cond-not true r q a b = a
 cond-not false r q a b = b
 
--- ---- the figures of the lower layer
+-- a figure of the lower layer is declined with 6 alone, and a single tariff with 6 or 13
+six-not : {A : Type 0} {r : Report A} → Declines Six r → NotEleven r
+six-not declines e = let clash = declines 11 e in omega arith
 
-fifty-not : (t : ℤ) → NotEleven (fromOneToFifty t)
-fifty-not (pos t) = unless-not (inside 1 t 50) 13 _ refl (figure-not t)
-fifty-not (negsuc t) = λ e. let clash : _≡_ {A = ℕ} 11 13 = cc in omega arith
-
-single-tariff-not : (c1 c2 c3 c4 : ℤ) (D h : ℕ) → NotEleven (singleTariff c1 c2 c3 c4 D h)
-unfolding singleTariff
-single-tariff-not c1 c2 c3 c4 D h =
-    unless-not (inside 10 D 100) 6 _ refl (unless-not (inside 1 h 600) 6 _ refl (fifty-not (tariffSum c1 c2 c3 c4 D h div 100000000)))
-
-line-tariff-not : (sum number : ℕ) → NotEleven (lineTariff sum number)
-unfolding lineTariff
-line-tariff-not sum number =
-    unless-not (inside 1 number 1000) 6 _ refl (unless-not (inside number sum (50 * number)) 6 _ refl (figure-not (sum / number)))
-
-mean-not : (n S : ℕ) → NotEleven (mean n S)
-unfolding mean
-mean-not n S = unless-not (inside 1 n 1000000) 6 _ refl (unless-not (inside (49 * n) S (10000 * n)) 6 _ refl (figure-not (meanOf n S)))
-
-trees-not : (n p q : ℕ) → NotEleven (trees n p q)
-unfolding trees
-trees-not n p q =
-    unless-not (inside 0 n 1000000) 6 _ refl
-    (unless-not (inside 1 p 100000000) 6 _ refl
-    (unless-not (inside 1 q 100000000) 6 _ refl
-    (figure-not (treesOf n p q))))
-
-part-not : {A : Type 0} (g most d : ℕ) (a : A) → NotEleven (unless (inside 0 g most) 6 (unless (dInRange d) 6 (gives a)))
-part-not g most d a = unless-not (inside 0 g most) 6 _ refl (unless-not (dInRange d) 6 _ refl (figure-not a))
-
-stem-not : (T d f s : ℕ) → NotEleven (stem T d f s)
-unfolding stem
-stem-not T d f s =
-    unless-not (inside 1 T 50) 6 _ refl
-    (unless-not (dInRange d) 6 _ refl
-    (unless-not (inside 100 f 200) 6 _ refl
-    (unless-not (inside 1 s 100) 6 _ refl
-    (figure-not (range (stemEnds T d f s))))))
-
-tree-not : (t : AverageTree) → NotEleven (tree t)
-unfolding tree crown root
-tree-not t =
-    then-not (stem (t .tariff) (t .d) (t .factor) (t .gravity)) _ (stem-not (t .tariff) (t .d) (t .factor) (t .gravity)) (λ s.
-    then-not (crown (t .crown) (t .d)) _ (part-not (t .crown) 7 (t .d) (range (crownEnds (t .crown) (t .d)))) (λ c.
-    then-not (root (t .root) (t .d)) _ (part-not (t .root) 5 (t .d) (range (rootEnds (t .root) (t .d)))) (λ r.
-    figure-not (added s c r))))
-
-row-not : (N : ℕ) (t : AverageTree) → NotEleven (row N t)
-unfolding row
-row-not N t = unless-not (inside 0 N 100000000) 6 _ refl (then-not (tree t) _ (tree-not t) (λ m. figure-not (rowOf N m)))
+thirteen-not : {A : Type 0} {r : Report A} → Declines SixOrThirteen r → NotEleven r
+thirteen-not declines e = ⊎-elim (λ six. omega arith) (λ thirteen. omega arith) (declines 11 e)
 
 -- ---- the row of a line
 
@@ -147,18 +98,18 @@ worked-not : (l : Line) (T d f N : ℕ) → NotEleven (worked l T d f N)
 unfolding worked
 worked-not l T d f N =
     let t = treeWith (l .species) T d f in
-    then-not (row N t) _ (row-not N t) (λ m. figure-not (rowWith l T d N m))
+    then-not (row N t) _ (six-not (row-declines N t)) (λ m. figure-not (rowWith l T d N m))
 
 line-row-not : (factors : List ℕ) (l : Line) → NotEleven (lineRow factors l)
 unfolding lineRow
 line-row-not factors l =
     cond-not (eqb (l .n) 0) (gives (emptyRow l)) _ (figure-not (emptyRow l))
     (when-not (eqb (l .heights) 0) 12 _ refl
-    (then-not (mean (l .n) (l .squares)) _ (mean-not (l .n) (l .squares)) (λ d.
+    (then-not (mean (l .n) (l .squares)) _ (six-not (mean-declines (l .n) (l .squares))) (λ d.
     when-not (eqb (factorAt factors (d / 10)) 0) 14 _ refl
-    (then-not (trees (l .n) (l .p) (l .q)) _ (trees-not (l .n) (l .p) (l .q)) (λ N.
+    (then-not (trees (l .n) (l .p) (l .q)) _ (six-not (trees-declines (l .n) (l .p) (l .q))) (λ N.
     unless-not (leb N 100000000) 15 _ refl
-    (then-not (lineTariff (l .tariffs) (l .heights)) _ (line-tariff-not (l .tariffs) (l .heights)) (λ T.
+    (then-not (lineTariff (l .tariffs) (l .heights)) _ (six-not (line-tariff-declines (l .tariffs) (l .heights))) (λ T.
     worked-not l T d (factorAt factors (d / 10)) N)))))))
 
 -- ---- the commands
@@ -216,7 +167,7 @@ heights-limit cm tenths s e =
     let not-ended = past-when (s .ended) 5 _ refl e in
     let is-open = past-unless (s .active) 10 _ refl not-ended in
     let noted = by-first (height cm tenths l) _ (λ m. figure-not (withLine s m)) is-open in
-    by-next (tariffOf c cm tenths) _ (single-tariff-not (c .c1) (c .c2) (c .c3) (c .c4) cm tenths) noted (λ T told.
+    by-next (tariffOf c cm tenths) _ (thirteen-not (single-tariff-declines (c .c1) (c .c2) (c .c3) (c .c4) cm tenths)) noted (λ T told.
     let sum-not = unless-not (leb (l .tariffs + T) 50000) 6 _ refl (figure-not (withHeight T l)) in
     leb-true 1000 (l .heights) (told-when (leb 1000 (l .heights)) _ sum-not told))
 

@@ -12,12 +12,13 @@ use lib.Seq.{length-take-le, getD-take, getD-drop, getD-append-add, take-add}
 use lib.Dec.{leb, ltb, eqb}
 use lib.IntN.{ℤ}
 use borrow.Author.Tests.{le-leb, lt-ltb, leb-true, ltb-true, eqb-true}
-use Rattle.biomass.specs.Report.{Report, refused, gives, unless}
-use Rattle.biomass.specs.Law.Gives.{never, figure-is}
+use Rattle.biomass.specs.Report.{Report, refused, gives}
+use Rattle.biomass.specs.Law.Gives.{never, figure-is, test-passed}
 use Rattle.survey.specs.Bytes.{byte, AllBytes, numberAt, bytes, signed, unsigned}
 use Rattle.survey.specs.Command.{encode, Fits, FitsFour}
 use Rattle.survey.specs.Reading.{whole, speciesFrom, factorFrom, openFrom, measuredFrom, heightFrom, commandFrom, read}
 use Rattle.survey.specs.Writing.{fitsAt, write, laidAt, bufferAfter}
+use Rattle.survey.specs.RoundTrip.{ReadsBack, WritesBack}
 use Rattle.survey.specs.Law.Bytes.{
   EachByte,
   no-byte,
@@ -116,11 +117,7 @@ pub record ReadIsEncoded (s : List ℕ) (at next : ℕ) (c : Command) : Type 0 w
   pub inside : next ≤ length s
   pub taken : take (length (encode c)) (drop at s) ≡ encode c
 
--- a check that was passed, and a command's byte that was met or not
-checked : {A : Type 0} (test : Bool) (n : ℕ) (rest : Report A) {a : A} → unless test n rest ≡ gives a → (test ≡ true) × (rest ≡ gives a)
-checked true n rest e = (refl, e)
-checked false n rest e = never e
-
+-- a command's byte that was met or not
 by-byte : {X : Type 0} (b k : ℕ) (x y : Report (Command × ℕ)) {r : Command × ℕ}
     → cond (eqb b k) x y ≡ gives r → (b ≡ k → x ≡ gives r → X) → (y ≡ gives r → X) → X
 by-byte {X} b k x y {r} e this other = by-test (eqb b k) refl e
@@ -142,7 +139,7 @@ module _ (s : List ℕ) (at next : ℕ) (c : Command) where
   whole-encoded : (width : ℕ) (d : Command) → Fits d → Stands (encode d) s at → length (encode d) ≡ 1 + width
       → whole s (at + 1) width d ≡ gives (c, next) → ReadIsEncoded s at next c
   whole-encoded width d f h l e =
-      let w = checked (leb (at + 1 + width) (length s)) 3 (gives (d, at + 1 + width)) e in
+      let w = test-passed (leb (at + 1 + width) (length s)) 3 (gives (d, at + 1 + width)) e in
       gives-encoded d (at + 1 + width) f h (omega arith) (leb-true (at + 1 + width) (length s) (w .0)) (w .1)
 
   module _ (all : AllBytes s) where
@@ -196,7 +193,7 @@ pub read-is-encoded : (s : List ℕ) (at next : ℕ) (c : Command) → AllBytes 
 unfolding read commandFrom
 read-is-encoded s at next c all e =
     let b = byte s at in
-    let start = checked (ltb at (length s)) 1 (commandFrom b s (at + 1)) e in
+    let start = test-passed (ltb at (length s)) 1 (commandFrom b s (at + 1)) e in
     let one : at + 1 ≤ length s = omega (arith, ltb-true at (length s) (start .0)) in
     by-byte b 1 _ _ (start .1) (species-encoded s at next c all) λ e.
     by-byte b 2 _ _ e (factor-encoded s at next c all) λ e.
@@ -271,7 +268,7 @@ refused-keeps b at n c e = buffer-cases (λ l. l ≡ b) b at c (λ fits. never (
 pub write-read : (b : List ℕ) (at next : ℕ) (c : Command) → Fits c → write b at c ≡ gives next → read (bufferAfter b at c) at ≡ gives (c, next)
 unfolding write
 write-read b at next c f e =
-    let w = checked (fitsAt b at c) 4 (gives (at + length (encode c))) e in
+    let w = test-passed (fitsAt b at c) 4 (gives (at + length (encode c))) e in
     let fits : at + length (encode c) ≤ length b = leb-true (at + length (encode c)) (length b) (w .0) in
     rw (buffer-laid b at c fits, ← figure-is (w .1))
     (read-encoded (laidAt b at (encode c)) at c f (stands-laid b at (encode c) fits) (rw (length-laid b at (encode c) fits) fits))
@@ -283,3 +280,13 @@ read-write s at next c all e =
     let r = read-is-encoded s at next c all e in
     let fits : at + length (encode c) ≤ length s = omega arith in
     (rw (r .next-is) (write-gives s at c fits), buffer-laid s at c fits ∙ laid-again s at (encode c) (r .taken))
+
+-- both as the promises say them, of any answer; x is the buffer after writing
+pub reads-back : {x : List ℕ} (b : List ℕ) (at : ℕ) (c : Command) (r : Report ℕ) → Fits c → r ≡ write b at c → x ≡ bufferAfter b at c
+    → ReadsBack x at c r
+reads-back b at c (refused n) f e is = tt
+reads-back b at c (gives next) f e is = rw is (write-read b at next c f (sym e))
+
+pub writes-back : (s : List ℕ) (at : ℕ) (r : Report (Command × ℕ)) → AllBytes s → r ≡ read s at → WritesBack s at r
+writes-back s at (refused n) all e = tt
+writes-back s at (gives (c, next)) all e = read-write s at next c all (sym e)

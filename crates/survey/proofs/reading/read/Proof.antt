@@ -1,4 +1,5 @@
--- `survey::reading::read` meets its contract: past the end test, each arm of the match reads what the definition reads for the arm's byte.
+-- `survey::reading::read` meets its contract: past the end test, each arm of the match reads what the definition reads for the arm's byte. The
+-- slice's type tells that it holds bytes, so that what is read is written back as it was.
 use Prim.Native.Nat.{ℕ, _+_}
 use native.Mathlib.Omega.{arith}
 use mathlib.Core.Path.{_≡_, refl}
@@ -9,6 +10,8 @@ use Rattle.biomass.specs.Report.{Report, refused}
 use Rattle.survey.specs.Bytes.{byte}
 use Rattle.survey.specs.Reading.{commandFrom}
 use Rattle.survey.specs.Reading as Reading
+use Rattle.survey.specs.RoundTrip.{WritesBack}
+use Rattle.survey.specs.Law.RoundTrip.{writes-back}
 use Rattle.survey.specs.declared.command.Command.{Command}
 use Rattle.survey.proofs.reading.read.Statement.{statement}
 use Rattle.survey.proofs.reading.read.Tie as tie
@@ -22,7 +25,7 @@ unknown b s i h₁ h₂ h₃ h₄ h₅ h₆ h₇ =
 
 returns : tie.Need-returns
 unfolding Reading.read
-returns c = rw (le-ltb (c .before .before .args .at) (length (c .before .before .args .book .now)) (c .if1 .taken))
+returns c = (rw (le-ltb (c .before .before .args .at) (length (c .before .before .args .book .now)) (c .if1 .taken)), tt)
 
 add-from : tie.Need-add-from
 add-from c = omega arith
@@ -51,11 +54,14 @@ book c = c .before .before .before .args .book .now
 abbrev place : tie.After-shared-slice-known2 → ℕ
 place c = c .before .before .before .args .at
 
--- past the end test, what is read for the byte b at the place
+-- past the end test, what is read for the byte b at the place, and its bytes written again
 chosen : (c : tie.After-shared-slice-known2) {b : ℕ} {r : Report (Command × ℕ)}
-    → byte (book c) (place c) ≡ b → r ≡ commandFrom b (book c) (place c + 1) → r ≡ Reading.read (book c) (place c)
+    → byte (book c) (place c) ≡ b → r ≡ commandFrom b (book c) (place c + 1)
+    → (r ≡ Reading.read (book c) (place c)) × WritesBack (book c) (place c) r
 unfolding Reading.read
-chosen c e r = rw (lt-ltb (place c) (length (book c)) (c .before .if1 .left), e) r
+chosen c {r} e is =
+    let answer : r ≡ Reading.read (book c) (place c) = rw (lt-ltb (place c) (length (book c)) (c .before .if1 .left), e) is in
+    (answer, writes-back (book c) (place c) r (λ i. c .shared-slice-known2 .given i .fits) answer)
 
 returns-2 : tie.Need-returns-2
 unfolding commandFrom

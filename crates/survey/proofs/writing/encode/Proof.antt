@@ -1,5 +1,8 @@
--- `survey::writing::encode` meets its contract: each arm of the match puts together the bytes of its command, in the order of its operands.
+-- `survey::writing::encode` meets its contract: each arm of the match puts together the bytes of its command, in the order of its operands. That the
+-- operands fit their bytes is what their types tell (`known-told`).
 use native.Mathlib.Omega.{arith}
+use Rattle.survey.specs.Command.{SpeciesFits}
+use Rattle.survey.specs.Law.Bytes.{mag-fits}
 use Rattle.survey.proofs.Growth.{holds-then}
 use Rattle.survey.proofs.writing.encode.Statement.{statement}
 use Rattle.survey.proofs.writing.encode.Tie as tie
@@ -76,40 +79,64 @@ enum-told-2 c = c .match .keys7
 new-requires-6 : tie.Need-new-requires-6
 new-requires-6 c κs = tt
 
+-- each field of the species is in the range of its type
+species-fits : (c : tie.After-known-told) → SpeciesFits (c .before .command .given .0 .1 .0)
+species-fits c =
+    let s = c .before .command .given .0 .1 .0 in
+    let told = c .known-told .given .1 .0 .1 .1 in
+    record {
+      crown = told .0 .1;
+      root = told .1 .0 .1;
+      gravity = told .1 .1 .0 .1;
+      c1 = mag-fits (s .c1) (told .1 .1 .1 .0 .1);
+      c2 = mag-fits (s .c2) (told .1 .1 .1 .1 .0 .1);
+      c3 = mag-fits (s .c3) (told .1 .1 .1 .1 .1 .0 .1);
+      c4 = mag-fits (s .c4) (told .1 .1 .1 .1 .1 .1 .0 .1);
+    }
+
 returns : tie.Need-returns
-returns c = rw (c .before .before .command .given .1) (c .encode-species .ensures)
+returns c =
+    let told = c .before .known-told .given in
+    let h = c .encode-species .ensures in
+    rw (c .before .before .command .given .1) (h .0, h .1, (told .0 .1, species-fits (c .before)))
 
 returns-2 : tie.Need-returns-2
 returns-2 c =
-    rw (c .before .before .before .before .command2 .given .1)
-    (holds-then (holds-then (c .before .before .new .ensures) (c .before .one .ensures)) (c .one2 .ensures))
+    let told = c .before .before .before .known-told2 .given in
+    let h = holds-then _ (holds-then _ (c .before .before .new .ensures) (c .before .one .ensures)) (c .one2 .ensures) in
+    rw (c .before .before .before .before .command2 .given .1) (h .0, h .1, (told .0 .1, told .1 .0 .1))
 
 returns-3 : tie.Need-returns-3
 returns-3 c =
-    rw (c .before .before .before .before .before .before .command3 .given .1)
-    (holds-then
-    (holds-then
-    (holds-then
-    (holds-then (c .before .before .before .before .new2 .ensures) (c .before .before .before .one3 .ensures))
+    let told = c .before .before .before .before .before .known-told3 .given in
+    let h =
+    holds-then _
+    (holds-then _
+    (holds-then _
+    (holds-then _ (c .before .before .before .before .new2 .ensures) (c .before .before .before .one3 .ensures))
     (c .before .before .one4 .ensures))
     (c .before .four .ensures))
-    (c .four2 .ensures))
+    (c .four2 .ensures) in
+    rw (c .before .before .before .before .before .before .command3 .given .1)
+    (h .0, h .1, (told .0 .1, told .1 .0 .1, told .1 .1 .0 .1, told .1 .1 .1 .0 .1))
 
 returns-4 : tie.Need-returns-4
 returns-4 c =
-    rw (c .before .before .before .before .command4 .given .1)
-    (holds-then (holds-then (c .before .before .new3 .ensures) (c .before .one5 .ensures)) (c .two .ensures))
+    let told = c .before .before .before .known-told4 .given in
+    let h = holds-then _ (holds-then _ (c .before .before .new3 .ensures) (c .before .one5 .ensures)) (c .two .ensures) in
+    rw (c .before .before .before .before .command4 .given .1) (h .0, h .1, (told .0 .1, told .1 .0 .1))
 
 returns-5 : tie.Need-returns-5
 returns-5 c =
-    rw (c .before .before .before .before .command5 .given .1)
-    (holds-then (holds-then (c .before .before .new4 .ensures) (c .before .one6 .ensures)) (c .two2 .ensures))
+    let told = c .before .before .before .known-told5 .given in
+    let h = holds-then _ (holds-then _ (c .before .before .new4 .ensures) (c .before .one6 .ensures)) (c .two2 .ensures) in
+    rw (c .before .before .before .before .command5 .given .1) (h .0, h .1, (told .0 .1, told .1 .0 .1))
 
 returns-6 : tie.Need-returns-6
-returns-6 c = rw (c .before .enum-told .given .1) (c .new5 .ensures)
+returns-6 c = rw (c .before .enum-told .given .1) (c .new5 .ensures .0, c .new5 .ensures .1, tt)
 
 returns-7 : tie.Need-returns-7
-returns-7 c = rw (c .before .enum-told2 .given .1) (c .new6 .ensures)
+returns-7 c = rw (c .before .enum-told2 .given .1) (c .new6 .ensures .0, c .new6 .ensures .1, tt)
 
 pub encode-spec : {M : Type 1} → statement M
 encode-spec =

@@ -1,17 +1,19 @@
 -- `survey::writing::write` meets its contract: both refusals say that the command does not fit, and past them it does. The bytes laid are those
--- that `encode` holds, which are the command's.
+-- that `encode` holds, which are the command's; its operands fit, so that it is read back.
 use Prim.Native.Nat.{ℕ, _+_, _≤_, _<_}
 use native.Mathlib.Omega.{arith}
-use mathlib.Core.Path.{_≡_, _∙_}
+use mathlib.Core.Path.{_≡_}
 use mathlib.Core.List.{List}
 use lib.Dec.{lit≤}
 use lib.ListN.{length}
 use lib.Seq.{paste}
 use borrow.Author.Tests.{le-leb, lt-leb}
-use Rattle.biomass.specs.Report.{refused, gives}
-use Rattle.survey.specs.Command.{encode}
-use Rattle.survey.specs.Encoded.{Holds}
+use Rattle.biomass.specs.Report.{Report, refused, gives}
+use Rattle.survey.specs.Command.{encode, Fits}
+use Rattle.survey.specs.Encoded.{held}
 use Rattle.survey.specs.Writing.{write, laidAt, bufferAfter}
+use Rattle.survey.specs.RoundTrip.{ReadsBack}
+use Rattle.survey.specs.Law.RoundTrip.{reads-back}
 use Rattle.survey.specs.declared.command.Command.{Command}
 use Rattle.survey.specs.declared.command.Command.the-variants.{Species, Factor, Open, Measured, Height, Close, End}
 use Rattle.survey.specs.declared.writing.Encoded.{Encoded}
@@ -27,18 +29,24 @@ longest (Height cm tenths) = lit≤ tt
 longest Close = lit≤ tt
 longest End = lit≤ tt
 
-module _ (b : List ℕ) (at : ℕ) (k : Command) (e : Encoded) (h : Holds e (encode k)) where
-  no-room : length b < at + e .length → (refused 4 ≡ write b at k) × (b ≡ bufferAfter b at k)
+module _ (b : List ℕ) (at : ℕ) (k : Command) (e : Encoded) (h : (held e ≡ encode k) × (e .length ≡ length (encode k)) × Fits k) where
+  -- what is promised of the answer r and of x, the buffer then
+  abbrev Promised : Report ℕ → List ℕ → Type 0
+  Promised r x = (r ≡ write b at k) × ((x ≡ bufferAfter b at k) × ReadsBack x at k r)
+
+  no-room : length b < at + e .length → Promised (refused 4) b
   unfolding write bufferAfter
   no-room short =
-      let test = lt-leb (at + length (encode k)) (length b) (omega (arith, h .long)) in
-      (rw test, rw test)
+      let test = lt-leb (at + length (encode k)) (length b) (omega (arith, h .1)) in
+      (rw test, (rw test, tt))
 
-  room : at + e .length ≤ length b → (gives (at + e .length) ≡ write b at k) × (paste b at (e .bytes) (e .length) ≡ bufferAfter b at k)
+  room : {x : List ℕ} → at + e .length ≤ length b → x ≡ paste b at (e .bytes) (e .length) → Promised (gives (at + e .length)) x
   unfolding write bufferAfter laidAt
-  room fits =
-      let test = le-leb (at + length (encode k)) (length b) (omega (arith, h .long)) in
-      (rw (test, h .long), rw (test, h .is, h .long))
+  room {x} fits is =
+      let test = le-leb (at + length (encode k)) (length b) (omega (arith, h .1)) in
+      let answer : gives (at + e .length) ≡ write b at k = rw (test, h .1) in
+      let laid : x ≡ bufferAfter b at k = rw (is, test, h .0, h .1) in
+      (answer, (laid, reads-back b at k (gives (at + e .length)) (h .2) answer laid))
 
 encode-requires : tie.Need-encode-requires
 encode-requires c κs = tt
@@ -59,7 +67,7 @@ returns-2 c =
 lay-requires : tie.Need-lay-requires
 lay-requires c κs =
     let past = c .before .before .before .before in
-    (omega (arith, past .encode .ensures .long, longest (past .before .before .args .command)), omega arith)
+    (omega (arith, past .encode .ensures .1, longest (past .before .before .args .command)), omega arith)
 
 add-t7 : tie.Need-add-t7
 add-t7 c = omega arith
@@ -71,8 +79,7 @@ returns-3 : tie.Need-returns-3
 returns-3 c =
     let past = c .before .before .before .before .before .before .before in
     let a = past .before .before .args in
-    let r = room (a .buffer .now) (a .at) (a .command) (past .encode .result) (past .encode .ensures) (omega arith) in
-    (r .0, c .before .before .lay .ensures ∙ r .1)
+    room (a .buffer .now) (a .at) (a .command) (past .encode .result) (past .encode .ensures) (omega arith) (c .before .before .lay .ensures)
 
 pub write-spec : {M : Type 1} → statement M
 write-spec =

@@ -1,7 +1,6 @@
 -- `survey::line::Line::height` meets its contract: the single tariff's refusal is the line's, and then each test of the code is the definition's.
 use Prim.Native.Nat.{ℕ, _≤_}
 use native.Mathlib.Nat.{le-trans}
-use native.Mathlib.Omega.{arith}
 use mathlib.Core.Path.{_≡_, _∙_, refl, sym, ap}
 use borrow.Author.Needs.{needs}
 use borrow.Author.Tests.{le-leb, lt-leb}

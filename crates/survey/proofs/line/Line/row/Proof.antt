@@ -1,6 +1,6 @@
 -- `survey::line::Line::row` meets its contract: each test and each figure of the code is the definition's, in the same order. A mean that is given is at most
 -- 1,000 tenths of a cm, so that the table of factors has a place for it.
-use Prim.Native.Nat.{ℕ, _/_, _≤_}
+use Prim.Native.Nat.{ℕ, _/_}
 use native.Mathlib.Omega.{arith}
 use mathlib.Core.Path.{_≡_, _∙_, refl, sym, ap}
 use mathlib.Core.Bool.{Bool, cond}

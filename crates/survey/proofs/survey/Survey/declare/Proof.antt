@@ -1,11 +1,27 @@
 -- `survey::survey::Survey::declare` meets its contract: each test of the code is the definition's, in the same order.
-use mathlib.Core.Path.{_∙_, refl, sym, ap}
-use borrow.Author.Needs.{needs}
+use mathlib.Core.Path.{_≡_, _∙_, sym, ap}
+use Rattle.biomass.specs.Report.{Report, gives, unless}
 use Rattle.biomass.specs.Law.Report.{refuses, goes-on, held}
-use Rattle.survey.specs.Survey.{leaves, declare}
+use Rattle.survey.specs.Refusal.{when}
+use Rattle.survey.specs.Survey.{leaves, speciesInRange, declare}
+use Rattle.survey.specs.declared.survey.Survey.{Survey}
 use Rattle.survey.proofs.Check.{stop-when, past-when, id-in-range}
 use Rattle.survey.proofs.survey.Survey.declare.Statement.{statement}
 use Rattle.survey.proofs.survey.Survey.declare.Tie as tie
+
+-- the definition's checks down to each test
+abbrev to-1 : tie.Start → Report Survey → Report Survey
+to-1 s next = when (s .args .self .ended) 5 next
+
+abbrev to-2 : tie.Start → Report Survey → Report Survey
+to-2 s next = to-1 s (unless (speciesInRange (s .args .id) (s .args .species)) 6 next)
+
+-- where the tests are passed, the report is what follows them
+past-1 : (p : tie.Else1) {x : Report Survey} (next : Report Survey) → x ≡ next → x ≡ to-1 (p .before) next
+past-1 p next e = past-when 5 next (p .if1 .left) e
+
+past-2 : (p : tie.Else2) {x : Report Survey} (next : Report Survey) → x ≡ next → x ≡ to-2 (p .before .before .before) next
+past-2 p next e = past-1 (p .before .before) _ (goes-on _ 6 next (p .before .species-in-range .ensures) (p .if2 .left) e)
 
 refuse-requires : tie.Need-refuse-requires
 refuse-requires c κs = tt
@@ -23,10 +39,8 @@ refuse-requires-2 c κs = tt
 returns-2 : tie.Need-returns-2
 unfolding declare
 returns-2 c =
-    let p1 = c .before .before .before in
-    c .refuse2 .ensures ∙ ap (leaves _)
-    (past-when _ _ (p1 .if1 .left)
-    (refuses _ _ (c .before .before .species-in-range .ensures) (c .before .if2 .taken)))
+    let p = c .before in
+    c .refuse2 .ensures ∙ ap (leaves _) (past-1 (p .before .before) _ (refuses _ _ (p .before .species-in-range .ensures) (p .if2 .taken)))
 
 is-declared-requires : tie.Need-is-declared-requires
 is-declared-requires c κs = tt
@@ -37,33 +51,20 @@ refuse-requires-3 c κs = tt
 returns-3 : tie.Need-returns-3
 unfolding declare
 returns-3 c =
-    let p2 = c .before .before .before in
-    let p1 = p2 .before .before in
-    c .refuse3 .ensures ∙ ap (leaves _)
-    (past-when _ _ (p1 .if1 .left)
-    (goes-on _ _ _ (p2 .before .species-in-range .ensures) (p2 .if2 .left)
-    (stop-when _ (sym (c .before .before .is-declared .ensures) ∙ c .before .if3 .taken))))
+    let p = c .before in
+    c .refuse3 .ensures ∙ ap (leaves _) (past-2 (p .before .before) _ (stop-when _ (sym (p .before .is-declared .ensures) ∙ p .if3 .taken)))
 
-mul-species : tie.Need-mul-species
-mul-species c = search needs
-
-element-set-from-species : tie.Need-element-set-from-species
-element-set-from-species c =
-    let p2 = c .before .before in
-    let given = p2 .before .before .before .args in
-    id-in-range (given .id) (given .species) (held (p2 .before .species-in-range .ensures) (p2 .if2 .left))
+with-species-requires : tie.Need-with-species-requires
+with-species-requires c κs =
+    let p = c .before .before in
+    let given = p .before .before .before .args in
+    id-in-range (given .id) (given .species) (held (p .before .species-in-range .ensures) (p .if2 .left))
 
 returns-4 : tie.Need-returns-4
 unfolding declare
 returns-4 c =
-    let p3 = c in
-    let p2 = p3 .before .before in
-    let p1 = p2 .before .before in
-    ap (leaves _)
-    (past-when _ _ (p1 .if1 .left)
-    (goes-on _ _ _ (p2 .before .species-in-range .ensures) (p2 .if2 .left)
-    (past-when _ _ (sym (p3 .before .is-declared .ensures) ∙ p3 .if3 .left)
-    (refl))))
+    let p = c .before in
+    ap (leaves _) (past-2 (p .before .before) _ (past-when 7 _ (sym (p .before .is-declared .ensures) ∙ p .if3 .left) (ap gives (c .with-species .ensures))))
 
 pub declare-spec : {M : Type 1} → statement M
 declare-spec =
@@ -77,6 +78,5 @@ declare-spec =
     is-declared-requires
     refuse-requires-3
     returns-3
-    mul-species
-    element-set-from-species
+    with-species-requires
     returns-4)

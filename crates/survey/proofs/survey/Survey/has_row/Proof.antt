@@ -1,5 +1,5 @@
 -- `survey::survey::Survey::has_row` meets its contract. The loop's invariant: no row before i is the line's, so that the answer is that of the rows from i on.
-use Prim.Native.Nat.{ℕ, suc, _+_, _-_, _≤_, _<_}
+use Prim.Native.Nat.{ℕ, _+_, _-_, _≤_, _<_}
 use native.Mathlib.Nat.{le-trans, le-of-eq, min-le-left, min-le-right, le-min}
 use mathlib.Core.Path.{_≡_, _∙_, refl, sym, ap, subst}
 use mathlib.Core.Bool.{Bool, true, false, cond}

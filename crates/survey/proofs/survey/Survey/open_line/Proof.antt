@@ -1,13 +1,13 @@
 -- `survey::survey::Survey::open_line` meets its contract: each test of the code is the definition's, in the same order.
 use mathlib.Core.Path.{_≡_, _∙_, sym, ap}
-use borrow.Author.Needs.{needs}
 use borrow.Author.Tests.{le-leb, lt-leb}
 use Rattle.biomass.specs.Whole.{inside}
 use Rattle.biomass.specs.Report.{Report, gives, unless}
 use Rattle.biomass.specs.Law.Report.{refuses, goes-on, held}
 use Rattle.survey.specs.Refusal.{when}
+use Rattle.survey.specs.Line.{begun}
 use Rattle.survey.specs.Survey.{leaves, declared, opened, withOpened, openLine}
-use Rattle.survey.specs.declared.line.Line.{Line}
+use Rattle.survey.specs.declared.command.Species.{Species}
 use Rattle.survey.specs.declared.line.Line.{Line}
 use Rattle.survey.specs.declared.survey.Survey.{Survey}
 use Rattle.survey.proofs.Check.{stop-when, past-when, id-declared}
@@ -16,7 +16,7 @@ use Rattle.survey.proofs.survey.Survey.open_line.Tie as tie
 
 -- the definition's checks down to each test
 abbrev to-1 : tie.Start → Report Survey → Report Survey
-to-1 s next = when (s .args .t1 .ended) 5 next
+to-1 s next = when (s .args .self .ended) 5 next
 
 abbrev to-2 : tie.Start → Report Survey → Report Survey
 to-2 s next = to-1 s (unless (inside 1 (s .args .p) 100000000) 6 next)
@@ -25,15 +25,15 @@ abbrev to-3 : tie.Start → Report Survey → Report Survey
 to-3 s next = to-2 s (unless (inside 1 (s .args .q) 100000000) 6 next)
 
 abbrev to-4 : tie.Start → Report Survey → Report Survey
-to-4 s next = to-3 s (when (s .args .t1 .active) 9 next)
+to-4 s next = to-3 s (when (s .args .self .active) 9 next)
 
 abbrev to-5 : tie.Start → Report Survey → Report Survey
-to-5 s next = to-4 s (unless (declared (s .args .id) (s .args .t1)) 8 next)
+to-5 s next = to-4 s (unless (declared (s .args .id) (s .args .self)) 8 next)
 
 abbrev to-6 : tie.Start → Report Survey → Report Survey
-to-6 s next = to-5 s (when (opened (s .args .stratum) (s .args .id) (s .args .t1)) 7 next)
+to-6 s next = to-5 s (when (opened (s .args .stratum) (s .args .id) (s .args .self)) 7 next)
 
--- where the test is passed, the report is what follows it
+-- where the tests are passed, the report is what follows them
 past-1 : (p : tie.Else1) {x : Report Survey} (next : Report Survey) → x ≡ next → x ≡ to-1 (p .before) next
 past-1 p next e = past-when 5 next (p .if1 .left) e
 
@@ -123,16 +123,13 @@ returns-7 : tie.Need-returns-7
 unfolding openLine
 returns-7 c =
     let p = c .before in
-    c .refuse7 .ensures ∙ ap (leaves _) (past-6 (p .before) _ (stop-when _ (le-leb _ _ (p .if7 .taken))))
+    c .refuse7 .ensures ∙ ap (leaves _) (past-6 (p .before .before) _ (stop-when _ (le-leb _ _ (p .if7 .taken))))
 
-mul-species : tie.Need-mul-species
-mul-species c = search needs
-
-element-copy-out-species : tie.Need-element-copy-out-species
-element-copy-out-species c =
-    let p = c .before .before .before in
+species-at-requires : tie.Need-species-at-requires
+species-at-requires c κs =
+    let p = c .before .before .before .before in
     let given = p .before .before .before .before .before .before .before .before .args in
-    id-declared (given .id) (given .t1) (held (p .before .is-declared .ensures) (p .if5 .left))
+    id-declared (given .id) (given .self) (held (p .before .is-declared .ensures) (p .if5 .left))
 
 new-requires : tie.Need-new-requires
 new-requires c κs = tt
@@ -141,8 +138,10 @@ returns-8 : tie.Need-returns-8
 unfolding openLine
 returns-8 c =
     let p = c .before .before in
-    let s = p .before .before .before .before .before .before .before .before .before .before .before .args .t1 in
-    ap (leaves s) (past-6 (p .before) _ (past-when 11 _ (lt-leb _ _ (p .if7 .left)) (ap (λ (l : Line). gives (withOpened s l)) (c .new .ensures))))
+    let given = p .before .before .before .before .before .before .before .before .before .before .before .before .args in
+    let s = given .self in
+    let line = c .new .ensures ∙ ap (λ (l : Species). begun (given .stratum) (given .id) l (given .p) (given .q)) (c .before .species-at .ensures) in
+    ap (leaves s) (past-6 (p .before .before) _ (past-when 11 _ (lt-leb _ _ (p .if7 .left)) (ap (λ (l : Line). gives (withOpened s l)) line)))
 
 pub open-line-spec : {M : Type 1} → statement M
 open-line-spec =
@@ -166,7 +165,6 @@ open-line-spec =
     returns-6
     refuse-requires-7
     returns-7
-    mul-species
-    element-copy-out-species
+    species-at-requires
     new-requires
     returns-8)

@@ -20,7 +20,7 @@ returns c =
     let e = c .args .self in
     let room : e .length < 21 = omega arith in
     let within : e .length < length (e .bytes) = search needs in
-    record { is = rw add-one (take-suc-set (e .bytes) (e .length) (c .args .x) within); long = refl }
+    (rw add-one (take-suc-set (e .bytes) (e .length) (c .args .x) within), refl)
 
 pub one-spec : {M : Type 1} → statement M
 one-spec = tie.close (tie.spec element-write-e add-e returns)

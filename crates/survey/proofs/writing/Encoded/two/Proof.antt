@@ -1,6 +1,9 @@
 -- `survey::writing::Encoded::two` meets its contract: two bytes, one after the other.
+use Prim.Native.Nat.{_/_, _%_}
 use native.Mathlib.Nat.{div-one}
 use native.Mathlib.Omega.{arith}
+use mathlib.Core.List.{[], _∷_}
+use Rattle.survey.specs.Encoded.{held}
 use Rattle.survey.proofs.Growth.{grown-then}
 use Rattle.survey.proofs.writing.Encoded.two.Statement.{statement}
 use Rattle.survey.proofs.writing.Encoded.two.Tie as tie
@@ -18,7 +21,9 @@ one-requires-2 : tie.Need-one-requires-2
 one-requires-2 c κs = omega arith
 
 returns : tie.Need-returns
-returns c = rw div-one (grown-then (c .before .one .ensures) (c .one2 .ensures))
+returns c =
+    let a = c .before .before .args in
+    rw div-one (grown-then (held (a .self)) (a .x / 256 % 256 ∷ []) (a .x % 256 ∷ []) (a .self .length) (c .before .one .ensures) (c .one2 .ensures))
 
 pub two-spec : {M : Type 1} → statement M
 two-spec = tie.close (tie.spec cast-one one-requires cast-one-2 one-requires-2 returns)

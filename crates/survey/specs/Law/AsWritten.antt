@@ -21,7 +21,7 @@ use Rattle.survey.specs.Refusal.{when}
 use Rattle.survey.specs.Line.{withTrees, measured, withHeight, tariffOf, height, emptyRow, treeWith, worked, factorAt, lineRow}
 use Rattle.survey.specs.Survey.{withLine, withRow, measure, giveHeight, kept, close, apply}
 use Rattle.survey.specs.Valid.{ValidSpecies, ValidLine, Valid}
-use Rattle.survey.specs.Written.{measureAsWritten, heightAsWritten, T-of, d-of, N-of, workedRow, closeAsWritten, asWritten}
+use Rattle.survey.specs.AsWritten.{measureAsWritten, heightAsWritten, T-of, d-of, N-of, workedRow, closeAsWritten, asWritten}
 use Rattle.survey.specs.Law.Checks.{when-same, unless-same, when-then, unless-then, cond-then, then-then, answered-then}
 use Rattle.survey.specs.Law.Valid.{squares-added}
 use Rattle.survey.specs.declared.command.Command.{Command}

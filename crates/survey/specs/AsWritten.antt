@@ -1,4 +1,4 @@
--- Document 01's text with no refusal but those that it names. Applying a command to a valid survey gives just this (Law.Written): the checks that
+-- Document 01's text with no refusal but those that it names. Applying a command to a valid survey gives just this (Law.AsWritten): the checks that
 -- Line and Survey have besides decline only what no book reaches.
 use Prim.Native.Nat.{ℕ, _+_, _/_}
 use mathlib.Core.Bool.{cond}

@@ -1,0 +1,79 @@
+//! Document 01's commands once more: reading one at a place, and writing one.
+//! Err holds the number of the refusal.
+
+const AT_OR_PAST_THE_END: u64 = 1;
+const UNKNOWN_BYTE: u64 = 2;
+const OPERANDS_CUT_SHORT: u64 = 3;
+const TOO_FEW_BYTES: u64 = 4;
+
+/// What each command is called, from 01 on.
+pub const NAMES: [&str; 7] = ["species", "factor", "open", "measured", "height", "close", "end"];
+
+/// How many bytes each operand takes, for the commands from 01 on.
+const WIDTHS: [&[usize]; 7] = [&[1, 1, 1, 1, 4, 4, 4, 4], &[1, 1], &[1, 1, 4, 4], &[1, 2], &[1, 2], &[], &[]];
+
+pub const SPECIES: u8 = 1;
+pub const FACTOR: u8 = 2;
+pub const OPEN: u8 = 3;
+pub const MEASURED: u8 = 4;
+pub const HEIGHT: u8 = 5;
+pub const CLOSE: u8 = 6;
+pub const END: u8 = 7;
+
+/// A command's byte and its operands, each as the whole number that its bytes spell.
+pub struct Command {
+    pub byte: u8,
+    pub operands: Vec<u64>,
+}
+
+fn widths(byte: u8) -> Option<&'static [usize]> {
+    WIDTHS.get(usize::from(byte).wrapping_sub(1)).copied()
+}
+
+/// The number that bytes spell, high byte first.
+fn number(bytes: &[u8]) -> u64 {
+    bytes.iter().fold(0, |high, &byte| high << 8 | u64::from(byte))
+}
+
+/// The four bytes of a signed number, as the whole number that they spell.
+pub fn four_bytes(x: i32) -> u64 {
+    u64::from(x as u32)
+}
+
+/// The signed number in an operand of four bytes.
+pub fn signed(operand: u64) -> i32 {
+    u32::try_from(operand).expect("an operand of four bytes") as i32
+}
+
+/// The command at a place, and the place after it.
+pub fn read(book: &[u8], at: usize) -> Result<(Command, usize), u64> {
+    let &byte = book.get(at).ok_or(AT_OR_PAST_THE_END)?;
+    let widths = widths(byte).ok_or(UNKNOWN_BYTE)?;
+    let mut place = at + 1;
+    let mut operands = Vec::with_capacity(widths.len());
+    for width in widths {
+        operands.push(number(book.get(place..place + width).ok_or(OPERANDS_CUT_SHORT)?));
+        place += width;
+    }
+    Ok((Command { byte, operands }, place))
+}
+
+impl Command {
+    pub fn bytes(&self) -> Vec<u8> {
+        let widths = widths(self.byte).expect("a command's byte");
+        assert_eq!(widths.len(), self.operands.len());
+        let mut bytes = vec![self.byte];
+        for (width, operand) in widths.iter().zip(&self.operands) {
+            bytes.extend(&operand.to_be_bytes()[8 - width..]);
+        }
+        bytes
+    }
+
+    /// Writes the command from a place on, and answers the place after it.
+    pub fn write(&self, buffer: &mut [u8], at: usize) -> Result<usize, u64> {
+        let bytes = self.bytes();
+        let next = at + bytes.len();
+        buffer.get_mut(at..next).ok_or(TOO_FEW_BYTES)?.copy_from_slice(&bytes);
+        Ok(next)
+    }
+}
