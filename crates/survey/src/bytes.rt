@@ -1,11 +1,11 @@
 // Operands of two and four bytes, high byte first.
 ghost use mathlib.Core.Path.{_≡_};
-ghost use Prim.Native.Nat.{_+_, _≤_};
+ghost use Prim.Native.Nat.{_+_, _≤_, _<_};
 ghost use lib.ListN.{length};
 ghost use Rattle.survey.specs.Bytes.{numberAt, signed, unsigned};
 
 fn wide(x: u8) -> u16
-    ensures { λ r. ⌜ r ≡ x ⌝ }
+    ensures { λ r. ⌜ (r ≡ x) × (r < 256) ⌝ }
 {
     x as u16
 }
@@ -15,7 +15,9 @@ pub(crate) fn two(s: &[u8], at: usize) -> u16
     requires { ⌜ at + 2 ≤ length (now s) ⌝ }
     ensures { λ r. ⌜ r ≡ numberAt 2 (now (s .entry)) at ⌝ }
 {
-    wide(s[at]) * 256 + wide(s[at + 1])
+    let high = wide(s[at]);
+    let low = wide(s[at + 1]);
+    high * 256 + low
 }
 
 // The number in the four bytes from a place on.

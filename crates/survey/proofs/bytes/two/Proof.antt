@@ -1,5 +1,4 @@
 -- `survey::bytes::two` meets its contract: each byte is below 256, so that nothing overflows.
-use Prim.Native.Nat.{_+_}
 use native.Mathlib.Omega.{arith}
 use Rattle.survey.proofs.bytes.two.Statement.{statement}
 use Rattle.survey.proofs.bytes.two.Tie as tie
@@ -10,9 +9,6 @@ shared-slice-read-wide c = omega arith
 wide-requires : tie.Need-wide-requires
 wide-requires c κs = tt
 
-mul-result : tie.Need-mul-result
-mul-result c = omega (arith, c .before .shared-slice-known2 .given (c .before .before .before .args .at))
-
 add-wide : tie.Need-add-wide
 add-wide c = omega arith
 
@@ -22,10 +18,11 @@ shared-slice-read-wide-2 c = omega arith
 wide-requires-2 : tie.Need-wide-requires-2
 wide-requires-2 c κs = tt
 
+mul-result : tie.Need-mul-result
+mul-result c = omega arith
+
 add-result : tie.Need-add-result
-add-result c =
-    let at = c .before .before .before .before .before .args .at in
-    omega (arith, c .before .shared-slice-known3 .given at, c .before .shared-slice-known3 .given (at + 1))
+add-result c = omega arith
 
 returns : tie.Need-returns
 returns c = omega arith
@@ -36,9 +33,9 @@ two-spec =
     (tie.spec
     shared-slice-read-wide
     wide-requires
-    mul-result
     add-wide
     shared-slice-read-wide-2
     wide-requires-2
+    mul-result
     add-result
     returns)
