@@ -2,12 +2,12 @@
 -- (Law.Report of `biomass` has these for `if !answer`.)
 use Prim.Native.Nat.{ℕ, _+_, _-_, _≤_, _<_, zero-le}
 use lib.Dec.{leb}
-use mathlib.Core.Path.{_≡_, _∙_, sym, ap}
-use mathlib.Core.Bool.{Bool, true, false}
+use mathlib.Core.Path.{_≡_, _∙_, refl, sym, ap}
+use mathlib.Core.Bool.{Bool, true, false, not}
 use native.Mathlib.Omega.{arith}
 use borrow.Author.Tests.{le-leb, lt-leb}
 use Rattle.biomass.specs.Whole.{inside}
-use Rattle.biomass.specs.Law.Report.{true-inside, inside-true, both-true}
+use Rattle.biomass.specs.Law.Report.{refuses, goes-on, true-inside, inside-true, both-true}
 use Rattle.biomass.specs.Report.{Report, refused, unless}
 use Rattle.survey.specs.Refusal.{when}
 use Rattle.survey.specs.Survey.{speciesInRange, declared}
@@ -25,6 +25,14 @@ stop-unless {n} next e = ap (λ (b : Bool). unless b n next) (sym e)
 
 pub past-unless : {A : Type 0} {test : Bool} {x : Report A} (n : ℕ) (next : Report A) → test ≡ true → x ≡ next → x ≡ unless test n next
 past-unless n next e r = r ∙ ap (λ (b : Bool). unless b n next) (sym e)
+
+-- the two tests before a command on the open line
+pub no-line : (s : Survey) (next : Report Survey) → s .ended ≡ false → not (s .active) ≡ true → refused 10 ≡ when (s .ended) 5 (unless (s .active) 10 next)
+no-line s next e none = past-when 5 _ e (refuses (s .active) next refl none)
+
+pub on-line : (s : Survey) {x : Report Survey} (next : Report Survey) → s .ended ≡ false → not (s .active) ≡ false → x ≡ next →
+    x ≡ when (s .ended) 5 (unless (s .active) 10 next)
+on-line s next e some r = past-when 5 _ e (goes-on (s .active) 10 next refl some r)
 
 -- a range from 0 on has one end to test
 pub up-to : (x hi : ℕ) → x ≤ hi → inside 0 x hi ≡ true

@@ -49,10 +49,11 @@ abbrev pub begun : ℕ → ℕ → Species → ℕ → ℕ → Line
 begun stratum id s p q =
     record { stratum = stratum; id = id; species = s; p = p; q = q; n = 0; squares = 0; heights = 0; tariffs = 0 }
 
--- "04 measured trees: class in cm (1, 7 to 100), count (2, 1 and up)." "6; 11 over the limit": "1,000,000 measured trees .. a line"
+-- with so many trees of a class more
 abbrev pub withTrees : ℕ → ℕ → Line → Line
 withTrees class count l = lineWith l (l .n + count) (l .squares + count * (class * class)) (l .heights) (l .tariffs)
 
+-- "04 measured trees: class in cm (1, 7 to 100), count (2, 1 and up)." "6; 11 over the limit": "1,000,000 measured trees .. a line".
 -- The last check is not document 01's: it declines a line that no survey reaches (Law.AsWritten), whose S is above what 1,000,000 trees can have
 unfoldable pub measured : ℕ → ℕ → Line → Report Line
 measured class count l =
@@ -62,7 +63,7 @@ measured class count l =
     (unless (leb (l .squares + count * (class * class)) 10000000000) 6
     (gives (withTrees class count l)))))
 
--- "05 height tree: cm (1, 10 to 100), height in tenths of a metre (2, 1 to 600)." "6; 13 tariff outside 1 to 50; 11": "1,000 height trees a line"
+-- with one height tree more, of this tariff
 abbrev pub withHeight : ℕ → Line → Line
 withHeight T l = lineWith l (l .n) (l .squares) (l .heights + 1) (l .tariffs + T)
 
@@ -70,6 +71,7 @@ withHeight T l = lineWith l (l .n) (l .squares) (l .heights + 1) (l .tariffs + T
 abbrev pub tariffOf : Species → ℕ → ℕ → Report ℕ
 tariffOf s cm tenths = singleTariff (s .c1) (s .c2) (s .c3) (s .c4) cm tenths
 
+-- "05 height tree: cm (1, 10 to 100), height in tenths of a metre (2, 1 to 600)." "6; 13 tariff outside 1 to 50; 11": "1,000 height trees a line".
 -- Here too the last check declines only what no survey reaches
 unfoldable pub height : ℕ → ℕ → Line → Report Line
 height cm tenths l =
@@ -78,10 +80,11 @@ height cm tenths l =
     (unless (leb (l .tariffs + T) 50000) 6
     (gives (withHeight T l)))
 
--- "A line with n = 0 closes with tariff, d, N, low and high all 0 and needs no height tree."
+-- the line's row with these figures
 abbrev pub rowWith : Line → ℕ → ℕ → ℕ → BiomassRange → Row
 rowWith l T d N m = record { stratum = l .stratum; species = l .id; tariff = T; d = d; trees = N; biomass = m }
 
+-- "A line with n = 0 closes with tariff, d, N, low and high all 0 and needs no height tree."
 abbrev pub emptyRow : Line → Row
 emptyRow l = rowWith l 0 0 0 (between 0 0)
 
@@ -96,6 +99,10 @@ worked l T d f N = row N (treeWith (l .species) T d f) then λ m. gives (rowWith
 abbrev pub factorAt : List ℕ → ℕ → ℕ
 factorAt factors cm = getD factors cm 0
 
+-- "the factor at d div 10 cm"
+abbrev pub factorFor : List ℕ → ℕ → ℕ
+factorFor factors d = factorAt factors (d / 10)
+
 -- "Closing: .. then, where n > 0, 12 no height tree; 14 no factor for d div 10; 15 N over 100,000,000."
 -- d, N and T are worked by steps 2, 3 and 1; what one of them declines (6), closing declines, and of a line that a survey reaches none does
 unfoldable pub lineRow : List ℕ → Line → Report Row
@@ -103,8 +110,8 @@ lineRow factors l =
     cond (eqb (l .n) 0) (gives (emptyRow l))
     (when (eqb (l .heights) 0) 12
     (mean (l .n) (l .squares) then λ d.
-    when (eqb (factorAt factors (d / 10)) 0) 14
+    when (eqb (factorFor factors d) 0) 14
     (trees (l .n) (l .p) (l .q) then λ N.
     unless (leb N 100000000) 15
     (lineTariff (l .tariffs) (l .heights) then λ T.
-    worked l T d (factorAt factors (d / 10)) N))))
+    worked l T d (factorFor factors d) N))))

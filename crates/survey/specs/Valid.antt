@@ -1,5 +1,5 @@
 -- Valid surveys: what holds of a fresh survey and is kept by every command (Law.Valid), so that it holds of every survey that a book reaches.
-use Prim.Native.Nat.{ℕ, _*_, _/_, _≤_, _<_}
+use Prim.Native.Nat.{ℕ, _*_, _≤_, _<_}
 use mathlib.Core.Path.{_≡_}
 use mathlib.Core.Bool.{true, false}
 use mathlib.Core.List.{List, [], _∷_}
@@ -8,7 +8,7 @@ use Rattle.biomass.specs.Report.{gives}
 use Rattle.biomass.specs.Ends.{between}
 use Rattle.biomass.specs.Tree.{row}
 use Rattle.biomass.specs.Law.Report.{Inside}
-use Rattle.survey.specs.Line.{emptyRow, factorAt, treeWith}
+use Rattle.survey.specs.Line.{emptyRow, factorAt, factorFor, treeWith}
 use Rattle.survey.specs.Survey.{speciesAt, declared, anyLine, opened, noLine}
 use Rattle.survey.specs.declared.command.Species.{Species}
 use Rattle.survey.specs.declared.row.Row.{Row}
@@ -48,7 +48,7 @@ pub record EmptyRow (r : Row) : Type 0 where
 
 -- the row is what steps 4 to 7 give from its T, d and N and from the species and factors at hand
 pub record WorkedRow (s : Survey) (r : Row) : Type 0 where
-  pub is : row (r .trees) (treeWith (speciesAt s (r .species)) (r .tariff) (r .d) (factorAt (s .factors) (r .d / 10))) ≡ gives (r .biomass)
+  pub is : row (r .trees) (treeWith (speciesAt s (r .species)) (r .tariff) (r .d) (factorFor (s .factors) (r .d))) ≡ gives (r .biomass)
 
 pub data RowFigures (s : Survey) (r : Row) : Type 0 where
   empty : EmptyRow r → RowFigures s r

@@ -22,7 +22,7 @@ use Rattle.biomass.specs.Law.Report.{Inside}
 use Rattle.biomass.specs.Law.Gives.{figure-is, made}
 use Rattle.biomass.specs.Law.Tariff.{single-tariff-range}
 use Rattle.biomass.specs.Law.Tree.{tree-gives, row-gives}
-use Rattle.survey.specs.Line.{begun, withTrees, withHeight, emptyRow, treeWith, worked, factorAt, lineRow}
+use Rattle.survey.specs.Line.{lineWith, begun, withTrees, withHeight, emptyRow, treeWith, worked, factorAt, lineRow}
 use Rattle.survey.specs.Survey.{undeclared, noLine, fresh, speciesAt, withSpecies, withFactors, withRow, declared, isLine, anyLine, opened, apply}
 use Rattle.survey.specs.Valid.{ValidSpecies, ValidFactor, ValidLine, WorkedRow, RowFigures, ValidRow, Apart, none, more, rowAt, Valid}
 use Rattle.survey.specs.Law.Checks.{when-gives, unless-gives, cond-gives, declared-true, is-line-symmetric}
@@ -130,6 +130,24 @@ abbrev lined : Survey → Bool → Line → Bool → Survey
 lined s active l ended =
     record { species = s .species; factors = s .factors; rows = s .rows; closed = s .closed; active = active; line = l; ended = ended }
 
+-- an open line with other trees noted, within the limits
+noted-valid : (s : Survey) (l : Line) (active ended : Bool) (n S heights tariffs : ℕ) → ValidLine s l →
+    n ≤ 1000000 → Inside (49 * n) S (10000 * n) → heights ≤ 1000 → Inside heights tariffs (50 * heights) →
+    ValidLine (lined s active (lineWith l n S heights tariffs) ended) (lineWith l n S heights tariffs)
+unfolding opened
+noted-valid s l active ended n S heights tariffs v in-n in-S in-heights in-tariffs =
+    record {
+      is-declared = v .is-declared;
+      species = v .species;
+      p = v .p;
+      q = v .q;
+      trees = in-n;
+      squares = in-S;
+      heights = in-heights;
+      tariffs = in-tariffs;
+      first = v .first;
+    }
+
 module _ (s : Survey) (v : Valid s) where
   declare-valid : (t : Survey) (new : ℕ) (species : Species) → apply (Command.Species new species) s ≡ gives t → Valid t
   declare-valid t new species e =
@@ -211,48 +229,25 @@ module _ (s : Survey) (v : Valid s) where
       (λ ended. absurd (true≢false (sym ended ∙ g .not-ended)))
 
   measure-valid : (t : Survey) (class count : ℕ) → apply (Command.Measured class count) s ≡ gives t → Valid t
-  unfolding opened
   measure-valid t class count e =
       let g = measure-gives class count s t e in
       let l = s .line in
       let vl = v .line (g .is-open) in
+      let S = squares-added (l .n) (l .squares) class count (vl .squares) (g .class-range) in
       line-valid (Command.Measured class count) t (s .active) (withTrees class count l) (s .ended) e (g .is)
-      (v .room)
-      (λ is-open. record {
-        is-declared = vl .is-declared;
-        species = vl .species;
-        p = vl .p;
-        q = vl .q;
-        trees = g .trees;
-        squares = squares-added (l .n) (l .squares) class count (vl .squares) (g .class-range);
-        heights = vl .heights;
-        tariffs = vl .tariffs;
-        first = vl .first;
-      })
-      (v .finished)
+      (v .room) (λ is-open. noted-valid s l (s .active) (s .ended) _ _ _ _ vl (g .trees) S (vl .heights) (vl .tariffs)) (v .finished)
 
   height-valid : (t : Survey) (cm tenths : ℕ) → apply (Command.Height cm tenths) s ≡ gives t → Valid t
-  unfolding opened
   height-valid t cm tenths e =
       let g = height-gives cm tenths s t e in
       let l = s .line in
       let c = l .species in
       let vl = v .line (g .is-open) in
       let T-range = single-tariff-range (c .c1) (c .c2) (c .c3) (c .c4) cm tenths (g .tariff) (g .tariff-is) in
+      let heights : l .heights + 1 ≤ 1000 = omega (arith, g .room) in
+      let tariffs : Inside (l .heights + 1) (l .tariffs + g .tariff) (50 * (l .heights + 1)) = omega (arith, vl .tariffs) in
       line-valid (Command.Height cm tenths) t (s .active) (withHeight (g .tariff) l) (s .ended) e (g .is)
-      (v .room)
-      (λ is-open. record {
-        is-declared = vl .is-declared;
-        species = vl .species;
-        p = vl .p;
-        q = vl .q;
-        trees = vl .trees;
-        squares = vl .squares;
-        heights = omega (arith, g .room);
-        tariffs = omega (arith, vl .tariffs);
-        first = vl .first;
-      })
-      (v .finished)
+      (v .room) (λ is-open. noted-valid s l (s .active) (s .ended) _ _ _ _ vl (vl .trees) (vl .squares) heights tariffs) (v .finished)
 
   finish-valid : (t : Survey) → apply Command.End s ≡ gives t → Valid t
   finish-valid t e =

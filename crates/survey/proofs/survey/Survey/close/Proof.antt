@@ -1,11 +1,9 @@
 -- `survey::survey::Survey::close` meets its contract: its two tests are the definition's, and then the line's row decides.
-use mathlib.Core.Path.{_≡_, _∙_, refl, sym, ap}
-use Rattle.biomass.specs.Report.{Report, _then_}
-use Rattle.biomass.specs.Law.Report.{refuses, goes-on, stops, follows}
-use Rattle.survey.specs.Line.{rowed, lineRow}
-use Rattle.survey.specs.Survey.{leaves, kept, close}
-use Rattle.survey.specs.declared.survey.Survey.{Survey}
-use Rattle.survey.proofs.Check.{stop-when, past-when}
+use mathlib.Core.Path.{_∙_, refl, sym, ap}
+use Rattle.biomass.specs.Law.Report.{stops, follows}
+use Rattle.survey.specs.Line.{rowed}
+use Rattle.survey.specs.Survey.{leaves, close}
+use Rattle.survey.proofs.Check.{stop-when, no-line, on-line}
 use Rattle.survey.proofs.survey.Survey.close.Statement.{statement}
 use Rattle.survey.proofs.survey.Survey.close.Tie as tie
 
@@ -23,15 +21,7 @@ returns-2 : tie.Need-returns-2
 unfolding close
 returns-2 c =
     let p = c .before in
-    c .refuse2 .ensures ∙ ap (leaves _) (past-when _ _ (p .before .before .if1 .left) (refuses (p .before .before .before .args .self .active) _ refl (p .if2 .taken)))
-
--- past both tests
-past-tests : (p : tie.Else2) {x : Report Survey} →
-    let s = p .before .before .before .args .self in
-    x ≡ (lineRow (s .factors) (s .line) then λ r. kept r s) → x ≡ close s
-unfolding close
-past-tests p e =
-    past-when _ _ (p .before .before .if1 .left) (goes-on (p .before .before .before .args .self .active) _ _ refl (p .if2 .left) e)
+    c .refuse2 .ensures ∙ ap (leaves _) (no-line (p .before .before .before .args .self) _ (p .before .before .if1 .left) (p .if2 .taken))
 
 row-requires : tie.Need-row-requires
 row-requires c κs = tt
@@ -49,18 +39,24 @@ refuse-requires-3 : tie.Need-refuse-requires-3
 refuse-requires-3 c κs = tt
 
 returns-3 : tie.Need-returns-3
+unfolding close
 returns-3 c =
     let known = c .before .before in
     let worked = known .before .before in
     let p = worked .before .before .before in
-    c .keep .ensures ∙ ap (leaves _) (past-tests p (follows _ _ (sym (worked .row .ensures) ∙ ap rowed (known .row2 .given .1)) refl))
+    let s = p .before .before .before .args .self in
+    let row = sym (worked .row .ensures) ∙ ap rowed (known .row2 .given .1) in
+    c .keep .ensures ∙ ap (leaves s) (on-line s _ (p .before .before .if1 .left) (p .if2 .left) (follows _ _ row refl))
 
 returns-4 : tie.Need-returns-4
+unfolding close
 returns-4 c =
     let known = c .before .before in
     let worked = known .before .before in
     let p = worked .before .before .before in
-    c .refuse3 .ensures ∙ ap (leaves _) (past-tests p (stops _ _ (sym (worked .row .ensures) ∙ ap rowed (known .why .given .1))))
+    let s = p .before .before .before .args .self in
+    let declined = sym (worked .row .ensures) ∙ ap rowed (known .why .given .1) in
+    c .refuse3 .ensures ∙ ap (leaves s) (on-line s _ (p .before .before .if1 .left) (p .if2 .left) (stops _ _ declined))
 
 pub close-spec : {M : Type 1} → statement M
 close-spec =

@@ -1,10 +1,9 @@
 -- `survey::survey::Survey::measured` meets its contract: its two tests are the definition's, and then the line's answer decides.
-use mathlib.Core.Path.{_∙_, refl, ap}
+use mathlib.Core.Path.{_∙_, ap}
 use Rattle.biomass.specs.Report.{Report, gives, _then_}
-use Rattle.biomass.specs.Law.Report.{refuses, goes-on}
 use Rattle.survey.specs.Survey.{leaves, withLine, measure}
 use Rattle.survey.specs.declared.line.Line.{Line}
-use Rattle.survey.proofs.Check.{stop-when, past-when}
+use Rattle.survey.proofs.Check.{stop-when, no-line, on-line}
 use Rattle.survey.proofs.survey.Survey.measured.Statement.{statement}
 use Rattle.survey.proofs.survey.Survey.measured.Tie as tie
 
@@ -22,7 +21,7 @@ returns-2 : tie.Need-returns-2
 unfolding measure
 returns-2 c =
     let p = c .before in
-    c .refuse2 .ensures ∙ ap (leaves _) (past-when _ _ (p .before .before .if1 .left) (refuses (p .before .before .before .args .self .active) _ refl (p .if2 .taken)))
+    c .refuse2 .ensures ∙ ap (leaves _) (no-line (p .before .before .before .args .self) _ (p .before .before .if1 .left) (p .if2 .taken))
 
 measured-requires : tie.Need-measured-requires
 measured-requires c κs = tt
@@ -35,8 +34,8 @@ unfolding measure
 returns-3 c =
     let p = c .before .before .before in
     let s = p .before .before .before .args .self in
-    c .note .ensures
-    ∙ ap (leaves s) (past-when _ _ (p .before .before .if1 .left) (goes-on (s .active) _ _ refl (p .if2 .left) (ap (λ (l : Report Line). l then λ l. gives (withLine s l)) (c .before .measured .ensures))))
+    let noted = ap (λ (l : Report Line). l then λ l. gives (withLine s l)) (c .before .measured .ensures) in
+    c .note .ensures ∙ ap (leaves s) (on-line s _ (p .before .before .if1 .left) (p .if2 .left) noted)
 
 pub measured-spec : {M : Type 1} → statement M
 measured-spec =
