@@ -189,3 +189,8 @@ apply (Command.Measured class count) s = measure class count s
 apply (Command.Height cm tenths) s = giveHeight cm tenths s
 apply Command.Close s = close s
 apply Command.End s = finish s
+
+-- the survey after a list of commands: a refused one leaves it as it was
+unfoldable pub reached : List Command → Survey → Survey
+reached [] s = s
+reached (c ∷ cs) s = reached cs (leaves s (apply c s) .survey)

@@ -13,7 +13,7 @@ use lib.ListN.{length, getD, take, set, replicate, length-set, length-replicate}
 use lib.Seq.{getD-set-same, getD-set-other, take-suc-set}
 use lib.Dec.{leb, ltb, eqb}
 use Rattle.biomass.specs.Whole.{inside}
-use Rattle.biomass.specs.Report.{gives}
+use Rattle.biomass.specs.Report.{Report, refused, gives}
 use Rattle.biomass.specs.Tariff.{lineTariff}
 use Rattle.biomass.specs.Mean.{mean}
 use Rattle.biomass.specs.Trees.{trees}
@@ -23,7 +23,7 @@ use Rattle.biomass.specs.Law.Gives.{figure-is, made}
 use Rattle.biomass.specs.Law.Tariff.{single-tariff-range}
 use Rattle.biomass.specs.Law.Tree.{tree-gives, row-gives}
 use Rattle.survey.specs.Line.{lineWith, begun, withTrees, withHeight, emptyRow, treeWith, worked, factorAt, lineRow}
-use Rattle.survey.specs.Survey.{undeclared, noLine, fresh, speciesAt, withSpecies, withFactors, withRow, declared, isLine, anyLine, opened, apply}
+use Rattle.survey.specs.Survey.{undeclared, noLine, fresh, speciesAt, withSpecies, withFactors, withRow, declared, isLine, anyLine, opened, leaves, apply, reached}
 use Rattle.survey.specs.Valid.{ValidSpecies, ValidFactor, ValidLine, WorkedRow, RowFigures, ValidRow, Apart, none, more, rowAt, Valid}
 use Rattle.survey.specs.Law.Checks.{when-gives, unless-gives, cond-gives, declared-true, is-line-symmetric}
 use Rattle.survey.specs.Law.Taken.{declare-gives, factor-gives, open-gives, measure-gives, height-gives, close-gives, finish-gives}
@@ -346,3 +346,16 @@ apply-valid (Command.Measured class count) s t v e = measure-valid s v t class c
 apply-valid (Command.Height cm tenths) s t v e = height-valid s v t cm tenths e
 apply-valid Command.Close s t v e = close-valid s t v e
 apply-valid Command.End s t v e = finish-valid s v t e
+
+-- so every survey that is reached from a fresh one is valid
+after-valid : (s : Survey) (r : Report Survey) → Valid s → ((t : Survey) → r ≡ gives t → Valid t) → Valid (leaves s r .survey)
+after-valid s (refused n) v taken = v
+after-valid s (gives t) v taken = taken t refl
+
+reached-from-valid : (cs : List Command) (s : Survey) → Valid s → Valid (reached cs s)
+unfolding reached
+reached-from-valid [] s v = v
+reached-from-valid (c ∷ cs) s v = reached-from-valid cs (leaves s (apply c s) .survey) (after-valid s (apply c s) v (λ t. apply-valid c s t v))
+
+pub reached-valid : (cs : List Command) → Valid (reached cs fresh)
+reached-valid cs = reached-from-valid cs fresh fresh-valid
