@@ -7,6 +7,7 @@
 --     Tariff: single-tariff-range, line-tariff-range      a tariff that is given is 1 to 50
 --     Answers                                 operands in their ranges are answered, and with what
 --     Declines                                a figure is declined with 6 alone, and a single tariff with 6 or 13
+--     Declines: unless-declines, then-declines    and what is made of checks and of other reports, with their numbers alone
 --     Fraction                                sums, shares and the order of fractions
 
 -- numbers: greatest, root and div; differences of naturals

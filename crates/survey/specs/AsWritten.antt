@@ -1,7 +1,8 @@
 -- Document 01's text with no refusal but those that it names. Applying a command to a valid survey gives just this (Law.AsWritten): the checks that
 -- Line and Survey have besides decline only what no book reaches.
 use Prim.Native.Nat.{ℕ, _+_, _/_}
-use mathlib.Core.Bool.{cond}
+use mathlib.Core.Bool.{Bool, true, false, cond}
+use mathlib.Core.List.{List, [], _∷_}
 use lib.Dec.{leb, eqb}
 use Rattle.biomass.specs.Whole.{inside}
 use Rattle.biomass.specs.Report.{Report, gives, unless, _then_}
@@ -10,7 +11,7 @@ use Rattle.biomass.specs.Trees.{treesOf}
 use Rattle.biomass.specs.Tree.{rowOf}
 use Rattle.biomass.specs.Law.Tree.{treeOf}
 use Rattle.survey.specs.Refusal.{when}
-use Rattle.survey.specs.Line.{withTrees, tariffOf, withHeight, emptyRow, rowWith, treeWith, factorAt}
+use Rattle.survey.specs.Line.{withTrees, tariffOf, withHeight, emptyRow, rowWith, treeWith, factorFor}
 use Rattle.survey.specs.Survey.{withLine, withRow, declare, giveFactor, openLine, finish}
 use Rattle.survey.specs.declared.command.Command.{Command}
 use Rattle.survey.specs.declared.row.Row.{Row}
@@ -57,9 +58,9 @@ closeAsWritten s =
     (unless (s .active) 10
     (cond (eqb (s .line .n) 0) (gives (withRow s (emptyRow (s .line))))
     (when (eqb (s .line .heights) 0) 12
-    (when (eqb (factorAt (s .factors) (d-of (s .line) / 10)) 0) 14
+    (when (eqb (factorFor (s .factors) (d-of (s .line))) 0) 14
     (unless (leb (N-of (s .line)) 100000000) 15
-    (gives (withRow s (workedRow (s .line) (factorAt (s .factors) (d-of (s .line) / 10))))))))))
+    (gives (withRow s (workedRow (s .line) (factorFor (s .factors) (d-of (s .line)))))))))))
 
 -- the other commands have no check that document 01 does not name
 abbrev pub asWritten : Command → Survey → Report Survey
@@ -70,3 +71,24 @@ asWritten (Command.Measured class count) s = measureAsWritten class count s
 asWritten (Command.Height cm tenths) s = heightAsWritten cm tenths s
 asWritten Command.Close s = closeAsWritten s
 asWritten Command.End s = finish s
+
+-- The refusals that document 01 names for each command, in its order. "5 the book has ended, first of all."
+abbrev pub numbersOf : Command → List ℕ
+-- "Species and factor: 6 operand outside its range; 7 already given."
+numbersOf (Command.Species id species) = 5 ∷ 6 ∷ 7 ∷ []
+numbersOf (Command.Factor cm factor) = 5 ∷ 6 ∷ 7 ∷ []
+-- "Opening: 6; 9 a line is open; 8 species undeclared, an id above 15 included; 7 same stratum and species already opened; 11 32 lines opened."
+numbersOf (Command.Open stratum species p q) = 5 ∷ 6 ∷ 9 ∷ 8 ∷ 7 ∷ 11 ∷ []
+-- "Measured: 10 no line open; 6; 11 over the limit."
+numbersOf (Command.Measured class count) = 5 ∷ 10 ∷ 6 ∷ 11 ∷ []
+-- "Height: 10; 6; 13 tariff outside 1 to 50; 11."
+numbersOf (Command.Height cm tenths) = 5 ∷ 10 ∷ 6 ∷ 13 ∷ 11 ∷ []
+-- "Closing: 10; then, where n > 0, 12 no height tree; 14 no factor for d div 10; 15 N over 100,000,000."
+numbersOf Command.Close = 5 ∷ 10 ∷ 12 ∷ 14 ∷ 15 ∷ []
+-- "Ending: 9."
+numbersOf Command.End = 5 ∷ 9 ∷ []
+
+-- whether a number is in a list
+abbrev pub isIn : ℕ → List ℕ → Bool
+isIn n [] = false
+isIn n (m ∷ l) = cond (eqb n m) true (isIn n l)

@@ -100,8 +100,11 @@ abbrev pub factorAt : List ℕ → ℕ → ℕ
 factorAt factors cm = getD factors cm 0
 
 -- "the factor at d div 10 cm"
+abbrev pub wholeCm : ℕ → ℕ
+wholeCm d = d / 10
+
 abbrev pub factorFor : List ℕ → ℕ → ℕ
-factorFor factors d = factorAt factors (d / 10)
+factorFor factors d = factorAt factors (wholeCm d)
 
 -- "Closing: .. then, where n > 0, 12 no height tree; 14 no factor for d div 10; 15 N over 100,000,000."
 -- d, N and T are worked by steps 2, 3 and 1; what one of them declines (6), closing declines, and of a line that a survey reaches none does

@@ -1,6 +1,6 @@
 -- On a valid survey a command does just what document 01's text says: the checks that the definitions have besides never fail there, since what
 -- a valid line holds is in the ranges of the figures that are worked from it.
-use Prim.Native.Nat.{ℕ, _+_, _*_, _/_, _≤_, _<_, zero-le}
+use Prim.Native.Nat.{ℕ, _+_, _*_, _≤_, _<_, zero-le}
 use native.Mathlib.Omega.{arith}
 use mathlib.Core.Path.{_≡_, refl, sym, ap, subst}
 use mathlib.Core.Bool.{Bool, false}
@@ -18,7 +18,7 @@ use Rattle.biomass.specs.Law.Mean.{mean-range}
 use Rattle.biomass.specs.Law.Tree.{Operands}
 use Rattle.biomass.specs.Law.Answers.{mean-answers, trees-answers, line-tariff-answers, row-answers}
 use Rattle.survey.specs.Refusal.{when}
-use Rattle.survey.specs.Line.{withTrees, measured, withHeight, tariffOf, height, emptyRow, treeWith, worked, factorAt, lineRow}
+use Rattle.survey.specs.Line.{withTrees, measured, withHeight, tariffOf, height, emptyRow, treeWith, worked, lineRow, factorFor, wholeCm}
 use Rattle.survey.specs.Survey.{withLine, withRow, measure, giveHeight, kept, close, apply}
 use Rattle.survey.specs.Valid.{ValidSpecies, ValidLine, Valid}
 use Rattle.survey.specs.AsWritten.{measureAsWritten, heightAsWritten, T-of, d-of, N-of, workedRow, closeAsWritten, asWritten}
@@ -61,15 +61,15 @@ height-as-written cm tenths s v =
     ap (λ (test : Bool). unless test 6 (gives (withHeight T l)) then f) (le-leb _ _ fit)))))
 
 -- all that the tree of a valid line with measured trees, a height tree and a factor is worked from, in its ranges
-line-operands : (s : Survey) (l : Line) → Valid s → ValidLine s l → 1 ≤ l .n → 1 ≤ l .heights → 0 < factorAt (s .factors) (d-of l / 10) →
-    Operands (treeWith (l .species) (T-of l) (d-of l) (factorAt (s .factors) (d-of l / 10)))
+line-operands : (s : Survey) (l : Line) → Valid s → ValidLine s l → 1 ≤ l .n → 1 ≤ l .heights → 0 < factorFor (s .factors) (d-of l) →
+    Operands (treeWith (l .species) (T-of l) (d-of l) (factorFor (s .factors) (d-of l)))
 line-operands s l v vl trees heights factor =
     let T-is = line-tariff-answers (l .tariffs) (l .heights) (record { least = heights; most = vl .heights }) (vl .tariffs) in
     let species : ValidSpecies (l .species) = subst ValidSpecies (sym (vl .species)) (v .species (l .id) (vl .is-declared)) in
     record {
       tariff = line-tariff-range (l .tariffs) (l .heights) (T-of l) T-is;
       d = mean-range (l .n) (l .squares) (record { least = trees; most = vl .trees }) (vl .squares);
-      factor = v .factors (d-of l / 10) factor .hundredths;
+      factor = v .factors (wholeCm (d-of l)) factor .hundredths;
       gravity = species .gravity;
       crown = species .crown;
       root = species .root;
@@ -87,7 +87,7 @@ close-as-written : (s : Survey) → Valid s → close s ≡ closeAsWritten s
 unfolding close lineRow worked closeAsWritten
 close-as-written s v =
     let l = s .line in
-    let f = factorAt (s .factors) (d-of l / 10) in
+    let f = factorFor (s .factors) (d-of l) in
     let keep : Row → Report Survey = λ r. kept r s in
     when-same (s .ended) 5 _ _ (λ not-ended.
     unless-same (s .active) 10 _ _ (λ is-open.

@@ -1,14 +1,15 @@
--- Laws of the checks that a command goes through: what the answer says of each test on the way, where a figure is given and where a number is
--- refused; when two reports with the same checks are the same; and what the tests of two or more parts say.
+-- Laws of the checks that a command goes through: what a figure that is given says of each test on the way; which numbers are refused; when two
+-- reports with the same checks are the same; and what the tests of two or more parts say.
 use Prim.Native.Nat.{ℕ, zero, suc, _≤_, _<_, zero-le}
-use mathlib.Core.Path.{_≡_, _∙_, refl, sym, ap, ap₂}
+use mathlib.Core.Path.{_≡_, _∙_, refl, sym, ap, ap₂, subst}
 use mathlib.Core.Bool.{Bool, true, false, cond}
 use lib.Dec.{ltb, eqb, eqb·zero-suc, eqb·suc-zero, eqb·suc-suc}
-use borrow.Author.Tests.{ltb-true, lt-ltb, eqb-false}
+use borrow.Author.Tests.{ltb-true, lt-ltb}
 use Rattle.biomass.specs.Whole.{inside}
 use Rattle.biomass.specs.Report.{Report, refused, gives, unless, _then_}
 use Rattle.biomass.specs.Law.Report.{Inside, inside-true, true-inside, both-true}
 use Rattle.biomass.specs.Law.Gives.{never, number-is, test-passed}
+use Rattle.biomass.specs.Law.Declines.{Declines}
 use Rattle.survey.specs.Refusal.{when}
 use Rattle.survey.specs.Survey.{speciesAt, speciesInRange, declared, isLine}
 use Rattle.survey.specs.Valid.{ValidSpecies}
@@ -34,35 +35,17 @@ pub cond-gives : {A X : Type 0} (test : Bool) (r q : Report A) {a : A} → cond 
 cond-gives true r q e f g = f e
 cond-gives false r q e f g = g e
 
--- a number that is refused is this check's, or that of the rest
-pub data Stopped {A : Type 0} (test fails passes : Bool) (n m : ℕ) (rest : Report A) : Type 0 where
-  here : test ≡ fails → n ≡ m → Stopped test fails passes n m rest
-  later : Past test passes rest (refused m) → Stopped test fails passes n m rest
+-- ---- what a check is declined with: its number where its test stops, and those of the rest where it does not (biomass's Declines has `unless`)
 
-pub when-refused : {A : Type 0} (test : Bool) (n : ℕ) (rest : Report A) {m : ℕ} → when test n rest ≡ refused m → Stopped test true false n m rest
-when-refused true n rest e = here refl (number-is e)
-when-refused false n rest e = later (record { test-is = refl; next = e })
+module _ {A : Type 0} (such : ℕ → Type 0) where
+  pub when-declines : (test : Bool) (k : ℕ) (rest : Report A) →
+      (test ≡ true → such k) → (test ≡ false → Declines such rest) → Declines such (when test k rest)
+  when-declines true k rest this others n e = subst such (number-is e) (this refl)
+  when-declines false k rest this others n e = others refl n e
 
-pub unless-refused : {A : Type 0} (test : Bool) (n : ℕ) (rest : Report A) {m : ℕ} → unless test n rest ≡ refused m → Stopped test false true n m rest
-unless-refused true n rest e = later (record { test-is = refl; next = e })
-unless-refused false n rest e = here refl (number-is e)
-
--- a number that is not this check's is that of the rest
-pub passed-on : {A : Type 0} {test fails passes : Bool} {n m : ℕ} {rest : Report A} →
-    eqb n m ≡ false → Stopped test fails passes n m rest → Past test passes rest (refused m)
-passed-on {n} {m} other (here t e) = absurd (eqb-false n m other e)
-passed-on other (later p) = p
-
--- ---- a report that is made of another one's figure
-
--- a number that is refused is the first report's, or that of what is made of its figure
-pub data ThenStopped {A B : Type 0} (first : Report A) (next-of : A → Report B) (m : ℕ) : Type 0 where
-  at-first : first ≡ refused m → ThenStopped first next-of m
-  after : (a : A) → first ≡ gives a → next-of a ≡ refused m → ThenStopped first next-of m
-
-pub then-refused : {A B : Type 0} (first : Report A) (next-of : A → Report B) {m : ℕ} → first then next-of ≡ refused m → ThenStopped first next-of m
-then-refused (refused n) next-of e = at-first (ap refused (number-is e))
-then-refused (gives a) next-of e = after a refl e
+  pub cond-declines : (test : Bool) (r q : Report A) → Declines such r → Declines such q → Declines such (cond test r q)
+  cond-declines true r q this other = this
+  cond-declines false r q this other = other
 
 -- ---- two reports with the same checks: they are the same where what follows is, and that only past the check
 

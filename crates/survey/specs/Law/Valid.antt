@@ -1,6 +1,6 @@
 -- The fresh survey is valid, and every command that is taken leaves a valid survey valid: what it notes has passed its checks, and what was noted
 -- before stays as it was (Law.Once).
-use Prim.Native.Nat.{ℕ, zero, suc, _+_, _*_, _/_, _≤_, _<_, zero-le}
+use Prim.Native.Nat.{ℕ, zero, suc, _+_, _*_, _≤_, _<_, zero-le}
 use native.Mathlib.Nat.{mul-le-mul, mul-le-mul-left}
 use native.Mathlib.Numerals.{add-one}
 use native.Mathlib.Decide.{ℕ-discrete}
@@ -22,7 +22,7 @@ use Rattle.biomass.specs.Law.Report.{Inside}
 use Rattle.biomass.specs.Law.Gives.{figure-is, made}
 use Rattle.biomass.specs.Law.Tariff.{single-tariff-range}
 use Rattle.biomass.specs.Law.Tree.{tree-gives, row-gives}
-use Rattle.survey.specs.Line.{lineWith, begun, withTrees, withHeight, emptyRow, treeWith, worked, factorAt, lineRow}
+use Rattle.survey.specs.Line.{lineWith, begun, withTrees, withHeight, emptyRow, treeWith, worked, lineRow, factorAt, factorFor, wholeCm}
 use Rattle.survey.specs.Survey.{undeclared, noLine, fresh, speciesAt, withSpecies, withFactors, withRow, declared, isLine, anyLine, opened, leaves, apply, reached}
 use Rattle.survey.specs.Valid.{ValidSpecies, ValidFactor, ValidLine, WorkedRow, RowFigures, ValidRow, Apart, none, more, rowAt, Valid}
 use Rattle.survey.specs.Law.Checks.{when-gives, unless-gives, cond-gives, declared-true, is-line-symmetric}
@@ -74,9 +74,9 @@ set-cases P l i j a d fits at-i elsewhere = by-cases (ℕ-discrete j i)
     by-cases (no other) = subst P (sym (getD-set-other l i j a d other)) (elsewhere other)
 
 -- a worked row has a factor, since its tree was answered
-has-factor : (s : Survey) (r : Row) → WorkedRow s r → 0 < factorAt (s .factors) (r .d / 10)
+has-factor : (s : Survey) (r : Row) → WorkedRow s r → 0 < factorFor (s .factors) (r .d)
 has-factor s r w =
-    let t = treeWith (speciesAt s (r .species)) (r .tariff) (r .d) (factorAt (s .factors) (r .d / 10)) in
+    let t = treeWith (speciesAt s (r .species)) (r .tariff) (r .d) (factorFor (s .factors) (r .d)) in
     let g = row-gives (r .trees) t (r .biomass) (w .is) in
     let factor = tree-gives t (g .one) (g .one-is) .operands .factor in
     omega arith
@@ -86,7 +86,7 @@ module _ (c : Command) (s t : Survey) (e : apply c s ≡ gives t) where
   figures-stay r h (RowFigures.empty x) = RowFigures.empty x
   figures-stay r h (RowFigures.worked w) =
       RowFigures.worked (record {
-        is = rw (species-stay c s t e (r .species) h, factors-stay c s t e (r .d / 10) (has-factor s r w)) (w .is);
+        is = rw (species-stay c s t e (r .species) h, factors-stay c s t e (wholeCm (r .d)) (has-factor s r w)) (w .is);
       })
 
   row-stays : (r : Row) → ValidRow s r → ValidRow t r
@@ -264,10 +264,10 @@ record RowOf (s : Survey) (l : Line) (r : Row) : Type 0 where
   figures : RowFigures s r
 
 worked-row-of : (s : Survey) (l : Line) (r : Row) (T d N : ℕ) → l .species ≡ speciesAt s (l .id) →
-    worked l T d (factorAt (s .factors) (d / 10)) N ≡ gives r → RowOf s l r
+    worked l T d (factorFor (s .factors) d) N ≡ gives r → RowOf s l r
 unfolding worked
 worked-row-of s l r T d N species e =
-    let f = factorAt (s .factors) (d / 10) in
+    let f = factorFor (s .factors) d in
     let biomass = made (row N (treeWith (l .species) T d f)) _ e in
     let is = subst (λ (x : Species). row N (treeWith x T d f) ≡ gives (biomass .figure)) species (biomass .gave) in
     subst (RowOf s l) (figure-is (biomass .next)) (record { stratum = refl; species = refl; figures = RowFigures.worked (record { is = is }) })
@@ -285,7 +285,7 @@ row-of s l r species e =
     (λ some.
     let heights = when-gives (eqb (l .heights) 0) 12 _ some in
     let d = made (mean (l .n) (l .squares)) _ (heights .next) in
-    let factor = when-gives (eqb (factorAt (s .factors) (d .figure / 10)) 0) 14 _ (d .next) in
+    let factor = when-gives (eqb (factorFor (s .factors) (d .figure)) 0) 14 _ (d .next) in
     let N = made (trees (l .n) (l .p) (l .q)) _ (factor .next) in
     let small = unless-gives (leb (N .figure) 100000000) 15 _ (N .next) in
     let T = made (lineTariff (l .tariffs) (l .heights)) _ (small .next) in

@@ -1,0 +1,93 @@
+-- A command is refused with the numbers that document 01 names for it: of a valid survey with no other, and of any survey with no other but 6 and
+-- 11, since all commands but closing have just the numbers that are named. None of them is 0, so that a refusal is never taken for acceptance.
+use Prim.Native.Nat.{ℕ}
+use mathlib.Core.Path.{_≡_, _∙_, refl, sym, subst}
+use mathlib.Core.Bool.{Bool, true, false, cond, true≢false}
+use mathlib.Core.List.{List, _∷_}
+use lib.Dec.{leb, eqb}
+use Rattle.biomass.specs.Report.{refused}
+use Rattle.biomass.specs.Law.Declines.{Declines, gives-declines, unless-declines}
+use Rattle.survey.specs.Line.{emptyRow, factorFor}
+use Rattle.survey.specs.Survey.{withRow, close, apply}
+use Rattle.survey.specs.Valid.{Valid}
+use Rattle.survey.specs.AsWritten.{d-of, N-of, workedRow, closeAsWritten, numbersOf, isIn}
+use Rattle.survey.specs.Law.Checks.{when-declines, cond-declines}
+use Rattle.survey.specs.Law.Declines.{declare-declines, factor-declines, open-declines, measure-declines, height-declines, close-declines, finish-declines}
+use Rattle.survey.specs.Law.AsWritten.{as-written}
+use Rattle.survey.specs.declared.command.Command.{Command}
+use Rattle.survey.specs.declared.survey.Survey.{Survey}
+
+abbrev In : List ℕ → ℕ → Type 0
+In l n = isIn n l ≡ true
+
+-- one of the numbers that are named for a command
+abbrev Named : Command → ℕ → Type 0
+Named c = In (numbersOf c)
+
+-- What a command is refused with is such a number of it, where the named ones are, and where what closing is refused with is
+module _ (such : Command → ℕ → Type 0) (named : (c : Command) (n : ℕ) → Named c n → such c n)
+    (s : Survey) (closing : Declines (such Command.Close) (close s)) where
+  apply-declines : (c : Command) → Declines (such c) (apply c s)
+  apply-declines (Command.Species id species) n e =
+      let c = Command.Species id species in named c n (declare-declines (Named c) id species s refl refl refl n e)
+  apply-declines (Command.Factor cm factor) n e =
+      let c = Command.Factor cm factor in named c n (factor-declines (Named c) cm factor s refl refl refl n e)
+  apply-declines (Command.Open stratum species p q) n e =
+      let c = Command.Open stratum species p q in
+      named c n (open-declines (Named c) stratum species p q s refl refl refl refl refl (λ full. refl) n e)
+  apply-declines (Command.Measured class count) n e =
+      let c = Command.Measured class count in named c n (measure-declines (Named c) class count s refl refl refl (λ over. refl) n e)
+  apply-declines (Command.Height cm tenths) n e =
+      let c = Command.Height cm tenths in named c n (height-declines (Named c) cm tenths s refl refl refl refl (λ full. refl) n e)
+  apply-declines Command.Close n e = closing n e
+  apply-declines Command.End n e = named Command.End n (finish-declines (Named Command.End) s refl refl n e)
+
+-- ---- a valid survey
+
+close-as-written-named : (s : Survey) → Declines (Named Command.Close) (closeAsWritten s)
+unfolding closeAsWritten
+close-as-written-named s =
+    let l = s .line in
+    let f = factorFor (s .factors) (d-of l) in
+    let such = Named Command.Close in
+    when-declines such (s .ended) 5 _ (λ ended. refl) (λ not-ended.
+    unless-declines such (s .active) 10 _ (λ none-open. refl) (λ is-open.
+    cond-declines such (eqb (l .n) 0) _ _ (gives-declines such (withRow s (emptyRow l)))
+    (when-declines such (eqb (l .heights) 0) 12 _ (λ none. refl) (λ heights.
+    when-declines such (eqb f 0) 14 _ (λ none. refl) (λ given.
+    unless-declines such (leb (N-of l) 100000000) 15 _ (λ over. refl) (λ few.
+    gives-declines such (withRow s (workedRow l f))))))))
+
+-- the refusals that document 01 does not name are unreachable
+pub only-named : (c : Command) (s : Survey) (n : ℕ) → Valid s → apply c s ≡ refused n → isIn n (numbersOf c) ≡ true
+only-named c s n v e =
+    apply-declines Named (λ c n is. is) s (λ n e. close-as-written-named s n (sym (as-written Command.Close s v) ∙ e)) c n e
+
+-- ---- any survey
+
+or-true : (test : Bool) {b : Bool} → b ≡ true → cond test true b ≡ true
+or-true true e = refl
+or-true false e = e
+
+-- besides, only 6 and 11
+abbrev NamedOrBesides : Command → ℕ → Type 0
+NamedOrBesides c = In (6 ∷ 11 ∷ numbersOf c)
+
+pub never-other : (c : Command) (s : Survey) (n : ℕ) → apply c s ≡ refused n → isIn n (6 ∷ 11 ∷ numbersOf c) ≡ true
+never-other c s n e =
+    apply-declines NamedOrBesides (λ c n is. or-true (eqb n 6) (or-true (eqb n 11) is)) s
+    (close-declines (NamedOrBesides Command.Close) s refl refl refl refl refl refl (λ is-open full. refl)) c n e
+
+zero-unnamed : (c : Command) → isIn 0 (numbersOf c) ≡ false
+zero-unnamed (Command.Species id species) = refl
+zero-unnamed (Command.Factor cm factor) = refl
+zero-unnamed (Command.Open stratum species p q) = refl
+zero-unnamed (Command.Measured class count) = refl
+zero-unnamed (Command.Height cm tenths) = refl
+zero-unnamed Command.Close = refl
+zero-unnamed Command.End = refl
+
+-- 0 stands for acceptance
+pub refusal-not-zero : (c : Command) (s : Survey) (n : ℕ) → apply c s ≡ refused n → n ≡ 0 → ⊥
+refusal-not-zero c s n e zero =
+    true≢false (sym (subst (NamedOrBesides c) zero (never-other c s n e)) ∙ zero-unnamed c)
