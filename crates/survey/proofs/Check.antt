@@ -1,4 +1,4 @@
--- From a test of the code to a check of the definition: the check that the test fails is the report, and one that it passes leaves the report as it is.
+-- From a test of the code to a check of the definition: where the check fails, the report is its refusal, and where it is passed, what follows it.
 -- (Law.Report of `biomass` has these for `if !answer`.)
 use Prim.Native.Nat.{ℕ, _+_, _-_, _≤_, _<_, zero-le}
 use lib.Dec.{leb}
