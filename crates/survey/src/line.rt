@@ -112,7 +112,7 @@ impl Line {
     }
 
     // The row of a line without measured trees.
-    fn empty_row(self) -> Row
+    pub(crate) fn empty_row(self) -> Row
         ensures { λ r. ⌜ r ≡ emptyRow self ⌝ }
     {
         let none = BiomassRange {

@@ -6,8 +6,6 @@ use super::line::Line;
 use super::line::Noted;
 use super::refusal::Refusal;
 use super::row::Row;
-use biomass::units::BiomassRange;
-use biomass::units::Milligrams;
 use biomass::whole::within;
 ghost use mathlib.Core.Path.{_≡_};
 ghost use Prim.Native.Nat.{_<_};
@@ -15,7 +13,7 @@ ghost use lib.ListN.{set};
 ghost use Rattle.biomass.specs.Report.{refused, gives, _then_};
 ghost use Rattle.survey.specs.Refusal.{number};
 ghost use Rattle.survey.specs.Line.{noted, factorAt};
-ghost use Rattle.survey.specs.Survey.{fresh, outcome, applied, leaves, speciesInRange, declared, isLine, opened, speciesAt, withSpecies, withFactors, withLine, kept, declare, giveFactor, openLine, measure, giveHeight, close, finish, apply};
+ghost use Rattle.survey.specs.Survey.{fresh, outcome, applied, leaves, speciesInRange, declared, isLine, opened, speciesAt, withSpecies, withFactors, withLine, withOpened, withRow, withEnd, kept, declare, giveFactor, openLine, measure, giveHeight, close, finish, apply};
 
 pub struct Survey {
     // What each species was declared with, by its id; gravity 0: not declared.
@@ -96,18 +94,8 @@ impl Survey {
             c3: 0,
             c4: 0,
         };
-        let none = BiomassRange {
-            low: Milligrams(0),
-            high: Milligrams(0),
-        };
-        let empty = Row {
-            stratum: 0,
-            species: 0,
-            tariff: 0,
-            d: 0,
-            trees: 0,
-            biomass: none,
-        };
+        let line = Line::new(0, 0, undeclared, 0, 0);
+        let empty = line.empty_row();
         let species = [undeclared; 16];
         let factors = [0u8; 101];
         let rows = [empty; 32];
@@ -117,11 +105,12 @@ impl Survey {
             rows,
             closed: 0,
             active: false,
-            line: Line::new(0, 0, undeclared, 0, 0),
+            line,
             ended: false,
         }
     }
 
+    // A command refused: the survey as it is.
     fn refuse(self, why: Refusal) -> Applied
         ensures { λ r. ⌜ applied r ≡ leaves self (refused (number why)) ⌝ }
     {
@@ -131,6 +120,17 @@ impl Survey {
         }
     }
 
+    // A command taken: the survey that it leaves.
+    fn accept(self) -> Applied
+        ensures { λ r. ⌜ applied r ≡ leaves self (gives self) ⌝ }
+    {
+        Applied {
+            survey: self,
+            outcome: Outcome::Done,
+        }
+    }
+
+    // What stands in the tables, and the survey with one thing changed, each under the name that specs/Survey.antt has for it.
     fn species_at(self, id: u8) -> Species
         requires { ⌜ id < 16 ⌝ }
         ensures { λ r. ⌜ r ≡ speciesAt self id ⌝ }
@@ -167,6 +167,43 @@ impl Survey {
         survey
     }
 
+    fn with_line(self, line: Line) -> Survey
+        ensures { λ r. ⌜ r ≡ withLine self line ⌝ }
+    {
+        let mut survey = self;
+        survey.line = line;
+        survey
+    }
+
+    fn with_opened(self, line: Line) -> Survey
+        ensures { λ r. ⌜ r ≡ withOpened self line ⌝ }
+    {
+        let mut survey = self;
+        survey.line = line;
+        survey.active = true;
+        survey
+    }
+
+    fn with_row(self, row: Row) -> Survey
+        requires { ⌜ self .closed < 32 ⌝ }
+        ensures { λ r. ⌜ r ≡ withRow self row ⌝ }
+    {
+        let at = self.closed;
+        let mut survey = self;
+        survey.rows[at] = row;
+        survey.closed = at + 1;
+        survey.active = false;
+        survey
+    }
+
+    fn with_end(self) -> Survey
+        ensures { λ r. ⌜ r ≡ withEnd self ⌝ }
+    {
+        let mut survey = self;
+        survey.ended = true;
+        survey
+    }
+
     // 01: declares a species.
     pub fn declare(self, id: u8, species: Species) -> Applied
         ensures { λ r. ⌜ applied r ≡ leaves self (declare id species self) ⌝ }
@@ -180,10 +217,7 @@ impl Survey {
         if self.is_declared(id) {
             return self.refuse(Refusal::AlreadyGiven);
         }
-        Applied {
-            survey: self.with_species(id, species),
-            outcome: Outcome::Done,
-        }
+        self.with_species(id, species).accept()
     }
 
     // 02: gives the factor at a whole cm.
@@ -202,10 +236,7 @@ impl Survey {
         if 0 < self.factor_at(cm) {
             return self.refuse(Refusal::AlreadyGiven);
         }
-        Applied {
-            survey: self.with_factor(cm, factor),
-            outcome: Outcome::Done,
-        }
+        self.with_factor(cm, factor).accept()
     }
 
     // Whether a species is declared. None is above 15.
@@ -263,13 +294,7 @@ impl Survey {
             return self.refuse(Refusal::Limit);
         }
         let line = Line::new(stratum, id, self.species_at(id), p, q);
-        let mut survey = self;
-        survey.line = line;
-        survey.active = true;
-        Applied {
-            survey,
-            outcome: Outcome::Done,
-        }
+        self.with_opened(line).accept()
     }
 
     // The survey with what became of its line.
@@ -277,14 +302,7 @@ impl Survey {
         ensures { λ r. ⌜ applied r ≡ leaves self (noted answer then λ l. gives (withLine self l)) ⌝ }
     {
         match answer {
-            Noted::Is(line) => {
-                let mut survey = self;
-                survey.line = line;
-                Applied {
-                    survey,
-                    outcome: Outcome::Done,
-                }
-            }
+            Noted::Is(line) => self.with_line(line).accept(),
             Noted::Refused(why) => self.refuse(why),
         }
     }
@@ -326,14 +344,7 @@ impl Survey {
         if 32 <= at {
             return self.refuse(Refusal::Limit);
         }
-        let mut survey = self;
-        survey.rows[at] = row;
-        survey.closed = at + 1;
-        survey.active = false;
-        Applied {
-            survey,
-            outcome: Outcome::Done,
-        }
+        self.with_row(row).accept()
     }
 
     // 06: closes the line and keeps its row.
@@ -364,12 +375,7 @@ impl Survey {
         if self.active {
             return self.refuse(Refusal::LineOpen);
         }
-        let mut survey = self;
-        survey.ended = true;
-        Applied {
-            survey,
-            outcome: Outcome::Done,
-        }
+        self.with_end().accept()
     }
 
     // Any command.

@@ -60,11 +60,15 @@ with-species-requires c κs =
     let given = p .before .before .before .args in
     id-in-range (given .id) (given .species) (held (p .before .species-in-range .ensures) (p .if2 .left))
 
+accept-requires : tie.Need-accept-requires
+accept-requires c κs = tt
+
 returns-4 : tie.Need-returns-4
 unfolding declare
 returns-4 c =
-    let p = c .before in
-    ap (leaves _) (past-2 (p .before .before) _ (past-when 7 _ (sym (p .before .is-declared .ensures) ∙ p .if3 .left) (ap gives (c .with-species .ensures))))
+    let p = c .before .before in
+    c .accept .ensures
+    ∙ ap (leaves _) (past-2 (p .before .before) _ (past-when 7 _ (sym (p .before .is-declared .ensures) ∙ p .if3 .left) (ap gives (c .before .with-species .ensures))))
 
 pub declare-spec : {M : Type 1} → statement M
 declare-spec =
@@ -79,4 +83,5 @@ declare-spec =
     refuse-requires-3
     returns-3
     with-species-requires
+    accept-requires
     returns-4)

@@ -1,5 +1,6 @@
 -- `survey::survey::Survey::end` meets its contract: its two tests are the definition's.
-use mathlib.Core.Path.{_∙_, refl, ap}
+use mathlib.Core.Path.{_∙_, ap}
+use Rattle.biomass.specs.Report.{gives}
 use Rattle.survey.specs.Survey.{leaves, finish}
 use Rattle.survey.proofs.Check.{stop-when, past-when}
 use Rattle.survey.proofs.survey.Survey.end.Statement.{statement}
@@ -20,9 +21,17 @@ unfolding finish
 returns-2 c =
     c .refuse2 .ensures ∙ ap (leaves _) (past-when _ _ (c .before .before .if1 .left) (stop-when _ (c .before .if2 .taken)))
 
+with-end-requires : tie.Need-with-end-requires
+with-end-requires c κs = tt
+
+accept-requires : tie.Need-accept-requires
+accept-requires c κs = tt
+
 returns-3 : tie.Need-returns-3
 unfolding finish
-returns-3 c = ap (leaves _) (past-when _ _ (c .before .if1 .left) (past-when _ _ (c .if2 .left) refl))
+returns-3 c =
+    let p = c .before .before in
+    c .accept .ensures ∙ ap (leaves _) (past-when _ _ (p .before .if1 .left) (past-when _ _ (p .if2 .left) (ap gives (c .before .with-end .ensures))))
 
 pub end-spec : {M : Type 1} → statement M
-end-spec = tie.close (tie.spec refuse-requires returns refuse-requires-2 returns-2 returns-3)
+end-spec = tie.close (tie.spec refuse-requires returns refuse-requires-2 returns-2 with-end-requires accept-requires returns-3)

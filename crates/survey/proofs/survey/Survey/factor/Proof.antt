@@ -86,11 +86,15 @@ returns-4 c =
 with-factor-requires : tie.Need-with-factor-requires
 with-factor-requires c κs = in-table (c .before .before .before .before)
 
+accept-requires : tie.Need-accept-requires
+accept-requires c κs = tt
+
 returns-5 : tie.Need-returns-5
 unfolding giveFactor
 returns-5 c =
-    let p = c .before in
-    ap (leaves _) (past-3 (p .before .before) _ (past-when 7 _ (ap (ltb 0) (sym (p .before .factor-at .ensures)) ∙ le-ltb 0 _ (p .if4 .left)) (ap gives (c .with-factor .ensures))))
+    let p = c .before .before in
+    c .accept .ensures
+    ∙ ap (leaves _) (past-3 (p .before .before) _ (past-when 7 _ (ap (ltb 0) (sym (p .before .factor-at .ensures)) ∙ le-ltb 0 _ (p .if4 .left)) (ap gives (c .before .with-factor .ensures))))
 
 pub factor-spec : {M : Type 1} → statement M
 factor-spec =
@@ -108,4 +112,5 @@ factor-spec =
     refuse-requires-4
     returns-4
     with-factor-requires
+    accept-requires
     returns-5)

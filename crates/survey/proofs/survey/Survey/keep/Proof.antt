@@ -1,7 +1,7 @@
 -- `survey::survey::Survey::keep` meets its contract: its test is the definition's.
-use mathlib.Core.Path.{_∙_, refl, ap}
-use borrow.Author.Needs.{needs}
+use mathlib.Core.Path.{_∙_, ap}
 use borrow.Author.Tests.{le-leb, lt-leb}
+use Rattle.biomass.specs.Report.{gives}
 use Rattle.survey.specs.Survey.{leaves, kept}
 use Rattle.survey.proofs.Check.{stop-when, past-when}
 use Rattle.survey.proofs.survey.Survey.keep.Statement.{statement}
@@ -14,19 +14,16 @@ returns : tie.Need-returns
 unfolding kept
 returns c = c .refuse .ensures ∙ ap (leaves _) (stop-when _ (le-leb _ _ (c .before .if1 .taken)))
 
-mul-row : tie.Need-mul-row
-mul-row c = search needs
+with-row-requires : tie.Need-with-row-requires
+with-row-requires c κs = c .if1 .left
 
-element-set-from-row : tie.Need-element-set-from-row
-element-set-from-row c = search needs
-
-add-survey : tie.Need-add-survey
-add-survey c = search needs
+accept-requires : tie.Need-accept-requires
+accept-requires c κs = tt
 
 returns-2 : tie.Need-returns-2
 unfolding kept
-returns-2 c = ap (leaves _) (past-when _ _ (lt-leb _ _ (c .if1 .left)) refl)
+returns-2 c =
+    c .accept .ensures ∙ ap (leaves _) (past-when _ _ (lt-leb _ _ (c .before .before .if1 .left)) (ap gives (c .before .with-row .ensures)))
 
 pub keep-spec : {M : Type 1} → statement M
-keep-spec =
-    tie.close (tie.spec refuse-requires returns mul-row element-set-from-row add-survey returns-2)
+keep-spec = tie.close (tie.spec refuse-requires returns with-row-requires accept-requires returns-2)

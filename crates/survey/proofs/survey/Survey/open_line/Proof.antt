@@ -8,7 +8,6 @@ use Rattle.survey.specs.Refusal.{when}
 use Rattle.survey.specs.Line.{begun}
 use Rattle.survey.specs.Survey.{leaves, declared, opened, withOpened, openLine}
 use Rattle.survey.specs.declared.command.Species.{Species}
-use Rattle.survey.specs.declared.line.Line.{Line}
 use Rattle.survey.specs.declared.survey.Survey.{Survey}
 use Rattle.survey.proofs.Check.{stop-when, past-when, id-declared}
 use Rattle.survey.proofs.survey.Survey.open_line.Statement.{statement}
@@ -134,14 +133,22 @@ species-at-requires c κs =
 new-requires : tie.Need-new-requires
 new-requires c κs = tt
 
+with-opened-requires : tie.Need-with-opened-requires
+with-opened-requires c κs = tt
+
+accept-requires : tie.Need-accept-requires
+accept-requires c κs = tt
+
 returns-8 : tie.Need-returns-8
 unfolding openLine
 returns-8 c =
-    let p = c .before .before in
+    let made = c .before .before in
+    let p = made .before .before in
     let given = p .before .before .before .before .before .before .before .before .before .before .before .before .args in
     let s = given .self in
-    let line = c .new .ensures ∙ ap (λ (l : Species). begun (given .stratum) (given .id) l (given .p) (given .q)) (c .before .species-at .ensures) in
-    ap (leaves s) (past-6 (p .before .before) _ (past-when 11 _ (lt-leb _ _ (p .if7 .left)) (ap (λ (l : Line). gives (withOpened s l)) line)))
+    let line = made .new .ensures ∙ ap (λ (l : Species). begun (given .stratum) (given .id) l (given .p) (given .q)) (made .before .species-at .ensures) in
+    let with = c .before .with-opened .ensures ∙ ap (withOpened s) line in
+    c .accept .ensures ∙ ap (leaves s) (past-6 (p .before .before) _ (past-when 11 _ (lt-leb _ _ (p .if7 .left)) (ap gives with)))
 
 pub open-line-spec : {M : Type 1} → statement M
 open-line-spec =
@@ -167,4 +174,6 @@ open-line-spec =
     returns-7
     species-at-requires
     new-requires
+    with-opened-requires
+    accept-requires
     returns-8)
