@@ -1,16 +1,17 @@
 -- From a test of the code to a check of the definition: where the check fails, the report is its refusal, and where it is passed, what follows it.
 -- (Law.Report of `biomass` has these for `if !answer`.)
-use Prim.Native.Nat.{ℕ, _+_, _-_, _≤_, _<_, zero-le}
+use Prim.Native.Nat.{ℕ, _+_, _-_, _≤_, _<_, zero-le, suc-le-suc}
 use lib.Dec.{leb}
 use mathlib.Core.Path.{_≡_, _∙_, refl, sym, ap}
 use mathlib.Core.Bool.{Bool, true, false, not}
 use native.Mathlib.Omega.{arith}
 use borrow.Author.Tests.{le-leb, lt-leb}
 use Rattle.biomass.specs.Whole.{inside}
-use Rattle.biomass.specs.Law.Report.{refuses, goes-on, true-inside, inside-true, both-true}
+use Rattle.biomass.specs.Law.Report.{refuses, goes-on, true-inside}
 use Rattle.biomass.specs.Report.{Report, refused, unless}
 use Rattle.survey.specs.Refusal.{when}
 use Rattle.survey.specs.Survey.{speciesInRange, declared}
+use Rattle.survey.specs.Law.Checks.{declared-true, species-in-range}
 use Rattle.survey.specs.declared.command.Species.{Species}
 use Rattle.survey.specs.declared.survey.Survey.{Survey}
 
@@ -43,10 +44,10 @@ above x hi h = simp (le-leb 0 x zero-le, lt-leb x hi h)
 
 -- no species in range, and none that is declared, has an id above 15
 pub id-in-range : (id : ℕ) (s : Species) → speciesInRange id s ≡ true → id < 16
-id-in-range id s e = let range = inside-true 0 id 15 (both-true _ _ e .0) in omega arith
+id-in-range id s e = suc-le-suc (species-in-range id s e .0 .most)
 
 pub id-declared : (id : ℕ) (s : Survey) → declared id s ≡ true → id < 16
-id-declared id s e = let range = inside-true 0 id 15 (both-true _ _ e .0) in omega arith
+id-declared id s e = suc-le-suc (declared-true id s e .in-table)
 
 -- whether x + y is at most a limit, as the code asks it without the sum
 pub over : (x y most : ℕ) → y ≤ most → most - y < x → leb (x + y) most ≡ false

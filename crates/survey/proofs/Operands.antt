@@ -1,12 +1,13 @@
 -- The code's test for operands cut short, and the definition's (`whole`), for operands of any width.
 use Prim.Native.Nat.{ℕ, _+_, _-_, _≤_, _<_}
 use native.Mathlib.Omega.{arith}
-use mathlib.Core.Path.{_≡_}
+use mathlib.Core.Path.{_≡_, sym}
 use mathlib.Core.List.{List}
 use lib.ListN.{length}
-use borrow.Author.Tests.{le-leb, lt-leb}
+use borrow.Author.Tests.{lt-leb}
 use Rattle.biomass.specs.Report.{refused, gives}
 use Rattle.survey.specs.Reading.{whole}
+use Rattle.survey.specs.Law.RoundTrip.{whole-gives}
 use Rattle.survey.specs.declared.command.Command.{Command}
 
 module _ (s : List ℕ) (from width : ℕ) (inside : from ≤ length s) (c : Command) where
@@ -14,4 +15,4 @@ module _ (s : List ℕ) (from width : ℕ) (inside : from ≤ length s) (c : Com
   cut-short test = rw (lt-leb (from + width) (length s) (omega arith))
 
   pub complete : width ≤ length s - from → gives (c, from + width) ≡ whole s from width c
-  complete test = rw (le-leb (from + width) (length s) (omega arith))
+  complete test = sym (whole-gives s from width c (omega arith))

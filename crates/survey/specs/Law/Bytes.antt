@@ -121,7 +121,7 @@ pub number-of-bytes : (k n : ℕ) {s : List ℕ} {i : ℕ} → n < 256 ^ k → S
 number-of-bytes k n {s} {i} fits h = omega (arith, rw div-eq-of-lt at (quotient-and-number k n h))
 
 -- the last k bytes of a number do not depend on those before them
-bytes-of-rest : (k b n : ℕ) → bytes k (b * 256 ^ k + n) ≡ bytes k n
+pub bytes-of-rest : (k b n : ℕ) → bytes k (b * 256 ^ k + n) ≡ bytes k n
 bytes-of-rest zero b n = refl
 bytes-of-rest (suc k) b n =
     let wider : b * 256 ^ suc k + n ≡ b * 256 * 256 ^ k + n = rw pow-suc (omega arith) in

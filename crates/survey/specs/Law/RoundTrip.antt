@@ -71,7 +71,7 @@ read-by : (s : List ℕ) (at b : ℕ) → at < length s → byte s at ≡ b → 
 unfolding read
 read-by s at b inside e = rw (lt-ltb at (length s) inside, e)
 
-whole-gives : (s : List ℕ) (from width : ℕ) (c : Command) → from + width ≤ length s → whole s from width c ≡ gives (c, from + width)
+pub whole-gives : (s : List ℕ) (from width : ℕ) (c : Command) → from + width ≤ length s → whole s from width c ≡ gives (c, from + width)
 whole-gives s from width c enough = rw le-leb
 
 signed-of-bytes : (z : ℤ) (s : List ℕ) (i : ℕ) → FitsFour z → Stands (bytes 4 (unsigned z)) s i → signed (numberAt 4 s i) ≡ z
@@ -236,11 +236,11 @@ laid-again s at l taken =
     ∙ rw (← take-add at (length l) s) (take-append-drop (at + length l) s)
 
 -- what is answered and what the buffer then is, where the command fits and where not
-write-gives : (b : List ℕ) (at : ℕ) (c : Command) → at + length (encode c) ≤ length b → write b at c ≡ gives (at + length (encode c))
+pub write-gives : (b : List ℕ) (at : ℕ) (c : Command) → at + length (encode c) ≤ length b → write b at c ≡ gives (at + length (encode c))
 unfolding write
 write-gives b at c fits = rw le-leb
 
-buffer-laid : (b : List ℕ) (at : ℕ) (c : Command) → at + length (encode c) ≤ length b → bufferAfter b at c ≡ laidAt b at (encode c)
+pub buffer-laid : (b : List ℕ) (at : ℕ) (c : Command) → at + length (encode c) ≤ length b → bufferAfter b at c ≡ laidAt b at (encode c)
 unfolding bufferAfter
 buffer-laid b at c fits = rw le-leb
 

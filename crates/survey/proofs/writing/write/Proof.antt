@@ -2,18 +2,18 @@
 -- that `encode` holds, which are the command's; its operands fit, so that it is read back.
 use Prim.Native.Nat.{ℕ, _+_, _≤_, _<_}
 use native.Mathlib.Omega.{arith}
-use mathlib.Core.Path.{_≡_}
+use mathlib.Core.Path.{_≡_, sym}
 use mathlib.Core.List.{List}
 use lib.Dec.{lit≤}
 use lib.ListN.{length}
 use lib.Seq.{paste}
-use borrow.Author.Tests.{le-leb, lt-leb}
+use borrow.Author.Tests.{lt-leb}
 use Rattle.biomass.specs.Report.{Report, refused, gives}
 use Rattle.survey.specs.Command.{encode, Fits}
 use Rattle.survey.specs.Encoded.{held}
 use Rattle.survey.specs.Writing.{write, laidAt, bufferAfter}
 use Rattle.survey.specs.RoundTrip.{ReadsBack}
-use Rattle.survey.specs.Law.RoundTrip.{reads-back}
+use Rattle.survey.specs.Law.RoundTrip.{write-gives, buffer-laid, refused-keeps, reads-back}
 use Rattle.survey.specs.declared.command.Command.{Command}
 use Rattle.survey.specs.declared.command.Command.the-variants.{Species, Factor, Open, Measured, Height, Close, End}
 use Rattle.survey.specs.declared.writing.Encoded.{Encoded}
@@ -35,17 +35,17 @@ module _ (b : List ℕ) (at : ℕ) (k : Command) (e : Encoded) (h : (held e ≡ 
   Promised r x = (r ≡ write b at k) × ((x ≡ bufferAfter b at k) × ReadsBack x at k r)
 
   no-room : length b < at + e .length → Promised (refused 4) b
-  unfolding write bufferAfter
+  unfolding write
   no-room short =
-      let test = lt-leb (at + length (encode k)) (length b) (omega (arith, h .1)) in
-      (rw test, (rw test, tt))
+      let declined : write b at k ≡ refused 4 = rw (lt-leb (at + length (encode k)) (length b) (omega (arith, h .1))) in
+      (sym declined, (sym (refused-keeps b at 4 k declined), tt))
 
   room : {x : List ℕ} → at + e .length ≤ length b → x ≡ paste b at (e .bytes) (e .length) → Promised (gives (at + e .length)) x
-  unfolding write bufferAfter laidAt
-  room {x} fits is =
-      let test = le-leb (at + length (encode k)) (length b) (omega (arith, h .1)) in
-      let answer : gives (at + e .length) ≡ write b at k = rw (test, h .1) in
-      let laid : x ≡ bufferAfter b at k = rw (is, test, h .0, h .1) in
+  unfolding laidAt
+  room {x} enough is =
+      let fits : at + length (encode k) ≤ length b = omega (arith, h .1) in
+      let answer : gives (at + e .length) ≡ write b at k = rw (h .1) (sym (write-gives b at k fits)) in
+      let laid : x ≡ bufferAfter b at k = rw (is, h .0, h .1) (sym (buffer-laid b at k fits)) in
       (answer, (laid, reads-back b at k (gives (at + e .length)) (h .2) answer laid))
 
 encode-requires : tie.Need-encode-requires
