@@ -1,8 +1,8 @@
--- The bytes that are put together for a command so far. (A private part of writing; document 01 does not name it.)
+-- The bytes that are put together so far for a command or a row. (A private part of the code; document 01 does not name it.)
 use Prim.Native.Nat.{ℕ}
 use mathlib.Core.List.{List}
 use lib.ListN.{take}
-use Rattle.survey.specs.declared.writing.Encoded.{Encoded}
+use Rattle.survey.specs.declared.encoding.Encoded.{Encoded}
 
 abbrev pub held : Encoded → List ℕ
 held e = take (e .length) (e .bytes)

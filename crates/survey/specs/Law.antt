@@ -2,17 +2,29 @@
 --     RoundTrip: write-read, read-write       what is written is read back, and what is read and written again is the same bytes
 --     RoundTrip: reads-back, writes-back      the same as the promises of writing and reading say it, where they refuse too
 --     Book: read-all-encoded, encoded-read-all    the same of whole books: a list's encoding reads back as the list, and a book that reads through is its list's encoding
+--     Sheet: row-stands, rest-stays           the i-th row stands in its own 25 bytes of the sheet, and no byte past the rows changes
+--     Sheet: row-reads-back                   a row that is laid is read back as it was
 --     Valid: fresh-valid, apply-valid         a fresh survey is valid, and every command keeps a survey so
 --     AsWritten: as-written                   of a valid survey, applying is document 01's text, with no refusal but those that it names
 --     Named: only-named, never-other          the refusals of each command are those that document 01 names; of any survey, besides only 6 and 11
---     Named: refusal-not-zero                 and no refusal is taken for acceptance
+--     Named: refusal-not-zero, refusal-from-five      and no refusal is taken for acceptance, nor for one of reading or writing
 --     Limit: limit-told                       11 is told only at the limit, of any survey
 --     Once: species-stay, factors-stay, rows-stay     what is given once never changes
---     Witness                                 two wrong programs, and that the promises contradict them
+--     Playing: plays-refused, plays-on, plays-end, plays-past-end     how playing goes on from a place; `enough`: how many commands are allowed makes no difference
+--     Playing: note-line, note-refused        an open line that is noted on its own
+--     Playing: play-valid, play-ended         a book is played to a valid survey, which has ended
+--     Playing: place-in-book, end-at-length   or stops at a place within the book, and with 1 at its end
+--     Playing: play-of-list                   and a book given as its commands plays as they do
+--     Demand3: demand3, demanded              demand 3, of every valid survey, and of what every book with every sheet is answered
+--     Demand3: total-den                      and its comparisons with the exact total are comparisons: no denominator is 0
+--     Listing: listing-totalled, listing-sheet, listing-lines     totalling the listing gives what document 01 prints of it
+--     WrongPrograms                           document 01's six wrong programs and its low of 0, and that what totalling promises contradicts each
+--     Witness                                 two of them again, at one command, and that what applying promises contradicts them
 
 -- a command's bytes, and books
 pub mod Bytes
 pub mod RoundTrip
+pub mod Sheet
 pub mod Book
 -- checks that are passed and failed; a command that is taken, check by check; what each command is declined with
 pub mod Checks
@@ -25,3 +37,10 @@ pub mod Valid
 pub mod AsWritten
 pub mod Named
 pub mod Witness
+-- whole books, played from a fresh survey
+pub mod Playing
+pub mod Sums
+pub mod Demand3
+-- document 01's listing, and its wrong programs
+pub mod Listing
+pub mod WrongPrograms

@@ -18,5 +18,13 @@ pub mod Line
 pub mod Survey
 pub mod Valid
 pub mod AsWritten
--- what is proved of all this
+-- whole books: totalling, and demand 3
+pub mod Playing
+pub mod Sheet
+pub mod Total
+pub mod Demand3
+-- document 01's listing
+pub mod Listing
+-- what is proved of all this, and document 01's marked lines
 pub mod Law
+pub mod Marked

@@ -3,7 +3,7 @@ use Prim.Native.Nat.{ℕ}
 use mathlib.Core.Bool.{Bool, true, false}
 use Rattle.biomass.specs.Report.{Report, refused}
 use Rattle.survey.specs.declared.refusal.Refusal.{Refusal}
-use Rattle.survey.specs.declared.refusal.Refusal.the-variants.{AtEnd, UnknownByte, CutShort, NoRoom, Ended, Operand, AlreadyGiven, Undeclared, LineOpen, NoLine, Limit, NoHeightTree, Tariff, NoFactor, TooManyTrees}
+use Rattle.survey.specs.declared.refusal.Refusal.the-variants.{AtEnd, UnknownByte, CutShort, NoRoom, Ended, Operand, AlreadyGiven, Undeclared, LineOpen, NoLine, Limit, NoHeightTree, Tariff, NoFactor, TooManyTrees, ShortSheet}
 
 abbrev pub number : Refusal → ℕ
 -- "Reading one command at a place: 1 the place is at or past the end; 2 unknown byte; 3 operands cut short."
@@ -26,6 +26,8 @@ number NoHeightTree = 12
 number Tariff = 13
 number NoFactor = 14
 number TooManyTrees = 15
+-- "Totalling a book into a sheet: 16 sheet under 800 bytes"
+number ShortSheet = 16
 
 -- One check of document 01's lists: where the test holds, the refusal n; else what follows. (`unless` of biomass's Report is the other way.)
 abbrev pub when : {A : Type 0} → Bool → ℕ → Report A → Report A

@@ -1,4 +1,4 @@
-// Operands of two and four bytes, high byte first.
+// Numbers of two, four and eight bytes, high byte first.
 ghost use mathlib.Core.Path.{_≡_};
 ghost use Prim.Native.Nat.{_+_, _≤_, _<_};
 ghost use lib.ListN.{length};
@@ -26,6 +26,14 @@ pub(crate) fn four(s: &[u8], at: usize) -> u32
     ensures { λ r. ⌜ r ≡ numberAt 4 (now (s .entry)) at ⌝ }
 {
     (two(s, at) as u32) * 65_536 + (two(s, at + 2) as u32)
+}
+
+// The number in the eight bytes from a place on.
+pub(crate) fn eight(s: &[u8], at: usize) -> u64
+    requires { ⌜ at + 8 ≤ length (now s) ⌝ }
+    ensures { λ r. ⌜ r ≡ numberAt 8 (now (s .entry)) at ⌝ }
+{
+    (four(s, at) as u64) * 4_294_967_296 + (four(s, at + 4) as u64)
 }
 
 // The signed number in the four bytes from a place on.

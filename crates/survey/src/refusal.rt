@@ -34,6 +34,8 @@ pub enum Refusal {
     NoFactor,
     // More estimated trees than a line may have.
     TooManyTrees,
+    // Totalling: the sheet has too few bytes.
+    ShortSheet,
 }
 
 impl Refusal {
@@ -57,6 +59,7 @@ impl Refusal {
             Refusal::Tariff => 13,
             Refusal::NoFactor => 14,
             Refusal::TooManyTrees => 15,
+            Refusal::ShortSheet => 16,
         }
     }
 }

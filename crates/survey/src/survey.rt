@@ -167,7 +167,7 @@ impl Survey {
         survey
     }
 
-    fn with_line(self, line: Line) -> Survey
+    pub(crate) fn with_line(self, line: Line) -> Survey
         ensures { λ r. ⌜ r ≡ withLine self line ⌝ }
     {
         let mut survey = self;

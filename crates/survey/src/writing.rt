@@ -2,13 +2,11 @@
 use super::bytes::bits_of;
 use super::command::Command;
 use super::command::Species;
+use super::encoding::Encoded;
+use super::encoding::lay;
 use super::refusal::Refusal;
 ghost use mathlib.Core.Path.{_≡_};
-ghost use mathlib.Core.List.{[], _∷_, _++_};
-ghost use Prim.Native.Nat.{_+_, _≤_};
 ghost use lib.ListN.{length};
-ghost use lib.Seq.{paste};
-ghost use Rattle.survey.specs.Bytes.{bytes};
 ghost use Rattle.survey.specs.Command.{encode, Fits};
 ghost use Rattle.survey.specs.Writing.{writing, write, bufferAfter};
 ghost use Rattle.survey.specs.Encoded.{held};
@@ -18,48 +16,6 @@ ghost use Rattle.survey.specs.RoundTrip.{ReadsBack};
 pub enum Written {
     Next(usize),
     Refused(Refusal),
-}
-
-// The bytes of a command as far as they are put together: `length` of them. The longest command, 01, has 21.
-struct Encoded {
-    bytes: [u8; 21],
-    length: usize,
-}
-
-impl Encoded {
-    fn new(code: u8) -> Self
-        ensures { λ r. ⌜ (held r ≡ code ∷ []) × (r .length ≡ 1) ⌝ }
-    {
-        let mut bytes = [0u8; 21];
-        bytes[0] = code;
-        Encoded { bytes, length: 1 }
-    }
-
-    fn one(self, x: u8) -> Encoded
-        requires { ⌜ self .length + 1 ≤ 21 ⌝ }
-        ensures { λ r. ⌜ (held r ≡ held self ++ (x ∷ [])) × (r .length ≡ self .length + 1) ⌝ }
-    {
-        let at = self.length;
-        let mut e = self;
-        e.bytes[at] = x;
-        e.length = at + 1;
-        e
-    }
-
-    fn two(self, x: u16) -> Encoded
-        requires { ⌜ self .length + 2 ≤ 21 ⌝ }
-        ensures { λ r. ⌜ (held r ≡ held self ++ bytes 2 x) × (r .length ≡ self .length + 2) ⌝ }
-    {
-        self.one((x / 256 % 256) as u8).one((x % 256) as u8)
-    }
-
-    fn four(self, x: u32) -> Encoded
-        requires { ⌜ self .length + 4 ≤ 21 ⌝ }
-        ensures { λ r. ⌜ (held r ≡ held self ++ bytes 4 x) × (r .length ≡ self .length + 4) ⌝ }
-    {
-        self.two((x / 65_536 % 65_536) as u16)
-            .two((x % 65_536) as u16)
-    }
 }
 
 fn encode_species(id: u8, s: Species) -> Encoded
@@ -92,18 +48,6 @@ fn encode(command: Command) -> Encoded
         Command::Height { cm, tenths } => Encoded::new(0x05).one(cm).two(tenths),
         Command::Close => Encoded::new(0x06),
         Command::End => Encoded::new(0x07),
-    }
-}
-
-// Lays the first n bytes from a place on.
-fn lay(buffer: &mut [u8], at: usize, bytes: [u8; 21], n: usize)
-    requires { ⌜ (n ≤ 21) × (at + n ≤ length (now buffer)) ⌝ }
-    ensures { λ _. ⌜ now (buffer .exit) ≡ paste (now (buffer .entry)) at bytes n ⌝ }
-{
-    let mut i = 0;
-    while i < n {
-        buffer[at + i] = bytes[i];
-        i += 1;
     }
 }
 

@@ -26,7 +26,7 @@ pub data AllFit : List Command → Type 0 where
   and-next : {c : Command} {cs : List Command} → Fits c → AllFit cs → AllFit (c ∷ cs)
 
 -- so that as many commands as there are bytes left are enough
-one-byte-at-least : (c : Command) → 1 ≤ length (encode c)
+pub one-byte-at-least : (c : Command) → 1 ≤ length (encode c)
 one-byte-at-least (Species id s) = omega arith
 one-byte-at-least (Factor cm factor) = omega arith
 one-byte-at-least (Open stratum species p q) = omega arith

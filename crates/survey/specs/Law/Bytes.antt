@@ -90,6 +90,10 @@ stands-taken l s i (before {x} {l = rest} e h) fits =
 one-at-least : (k : ℕ) → 0 < 256 ^ k
 one-at-least k = one-le-pow k 256 (omega arith)
 
+-- the one byte of a number below 256 is the number
+pub byte-alone : (n : ℕ) → n < 256 → n / 256 ^ 0 % 256 ≡ n
+byte-alone n fits = rw (div-one, mod-eq-of-lt fits)
+
 pub length-bytes : (k n : ℕ) → length (bytes k n) ≡ k
 length-bytes zero n = refl
 length-bytes (suc k) n = ap suc (length-bytes k n)

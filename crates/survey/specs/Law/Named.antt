@@ -1,12 +1,17 @@
 -- A command is refused with the numbers that document 01 names for it: of a valid survey with no other, and of any survey with no other but 6 and
--- 11, since all commands but closing have just the numbers that are named. None of them is 0, so that a refusal is never taken for acceptance.
-use Prim.Native.Nat.{ℕ}
-use mathlib.Core.Path.{_≡_, _∙_, refl, sym, subst}
-use mathlib.Core.Bool.{Bool, true, false, cond, true≢false}
-use mathlib.Core.List.{List, _∷_}
-use lib.Dec.{leb, eqb}
+-- 11, since all commands but closing have just the numbers that are named. None of them is below 5, so that a refusal is never taken for acceptance,
+-- nor for one of reading.
+use Prim.Native.Nat.{ℕ, _≤_, _<_}
+use native.Mathlib.Omega.{arith}
+use mathlib.Core.Path.{_≡_, _∙_, refl, sym}
+use mathlib.Core.Bool.{Bool, true, false, cond, false≢true}
+use mathlib.Core.List.{List, [], _∷_}
+use lib.Dec.{leb, eqb, lit<}
+use borrow.Author.Tests.{leb-true, eqb-true}
 use Rattle.biomass.specs.Report.{refused}
+use Rattle.biomass.specs.Law.Report.{both-true}
 use Rattle.biomass.specs.Law.Declines.{Declines, gives-declines, unless-declines}
+use Rattle.survey.specs.Refusal.{number}
 use Rattle.survey.specs.Line.{emptyRow, factorFor}
 use Rattle.survey.specs.Survey.{withRow, close, apply}
 use Rattle.survey.specs.Valid.{Valid}
@@ -14,6 +19,8 @@ use Rattle.survey.specs.AsWritten.{d-of, N-of, workedRow, closeAsWritten
 use Rattle.survey.specs.Law.Checks.{when-declines, cond-declines}
 use Rattle.survey.specs.Law.Declines.{declare-declines, factor-declines, open-declines, measure-declines, height-declines, close-declines, finish-declines}
 use Rattle.survey.specs.Law.AsWritten.{as-written}
+use Rattle.survey.specs.declared.refusal.Refusal.{Refusal}
+use Rattle.survey.specs.declared.refusal.Refusal.the-variants.{AtEnd, UnknownByte, CutShort, NoRoom, Ended, Operand, AlreadyGiven, Undeclared, LineOpen, NoLine, Limit, NoHeightTree, Tariff, NoFactor, TooManyTrees, ShortSheet}
 use Rattle.survey.specs.declared.command.Command.{Command}
 use Rattle.survey.specs.declared.survey.Survey.{Survey}
 
@@ -78,16 +85,52 @@ never-other c s n e =
     apply-declines NamedOrBesides (λ c n is. or-true (eqb n 6) (or-true (eqb n 11) is)) s
     (close-declines (NamedOrBesides Command.Close) s refl refl refl refl refl refl (λ is-open full. refl)) c n e
 
-zero-unnamed : (c : Command) → isIn 0 (numbersOf c) ≡ false
-zero-unnamed (Command.Species id species) = refl
-zero-unnamed (Command.Factor cm factor) = refl
-zero-unnamed (Command.Open stratum species p q) = refl
-zero-unnamed (Command.Measured class count) = refl
-zero-unnamed (Command.Height cm tenths) = refl
-zero-unnamed Command.Close = refl
-zero-unnamed Command.End = refl
+-- a number that is in a list is not below k where none of the list is
+abbrev allFrom : ℕ → List ℕ → Bool
+allFrom k [] = true
+allFrom k (m ∷ l) = cond (leb k m) (allFrom k l) false
+
+cond-true : {X : Type 0} (test b : Bool) → cond test true b ≡ true → (test ≡ true → X) → (b ≡ true → X) → X
+cond-true true b e this other = this refl
+cond-true false b e this other = other e
+
+in-from : (k n : ℕ) (l : List ℕ) → allFrom k l ≡ true → isIn n l ≡ true → k ≤ n
+in-from k n [] all is = absurd (false≢true is)
+in-from k n (m ∷ l) all is =
+    let from = both-true (leb k m) (allFrom k l) all in
+    cond-true (eqb n m) (isIn n l) is (λ same. omega (arith, leb-true k m (from .0), eqb-true n m same)) (in-from k n l (from .1))
+
+named-from-five : (c : Command) → allFrom 5 (6 ∷ 11 ∷ numbersOf c) ≡ true
+named-from-five (Command.Species id species) = refl
+named-from-five (Command.Factor cm factor) = refl
+named-from-five (Command.Open stratum species p q) = refl
+named-from-five (Command.Measured class count) = refl
+named-from-five (Command.Height cm tenths) = refl
+named-from-five Command.Close = refl
+named-from-five Command.End = refl
+
+-- 1 to 4 are reading's and writing's own
+pub refusal-from-five : (c : Command) (s : Survey) (n : ℕ) → apply c s ≡ refused n → 5 ≤ n
+refusal-from-five c s n e = in-from 5 n (6 ∷ 11 ∷ numbersOf c) (named-from-five c) (never-other c s n e)
 
 -- 0 stands for acceptance
 pub refusal-not-zero : (c : Command) (s : Survey) (n : ℕ) → apply c s ≡ refused n → n ≡ 0 → ⊥
-refusal-not-zero c s n e zero =
-    true≢false (sym (subst (NamedOrBesides c) zero (never-other c s n e)) ∙ zero-unnamed c)
+refusal-not-zero c s n e zero = omega (arith, refusal-from-five c s n e)
+
+pub number-not-zero : (why : Refusal) → 0 < number why
+number-not-zero AtEnd = lit< tt
+number-not-zero UnknownByte = lit< tt
+number-not-zero CutShort = lit< tt
+number-not-zero NoRoom = lit< tt
+number-not-zero Ended = lit< tt
+number-not-zero Operand = lit< tt
+number-not-zero AlreadyGiven = lit< tt
+number-not-zero Undeclared = lit< tt
+number-not-zero LineOpen = lit< tt
+number-not-zero NoLine = lit< tt
+number-not-zero Limit = lit< tt
+number-not-zero NoHeightTree = lit< tt
+number-not-zero Tariff = lit< tt
+number-not-zero NoFactor = lit< tt
+number-not-zero TooManyTrees = lit< tt
+number-not-zero ShortSheet = lit< tt

@@ -8,7 +8,7 @@ use mathlib.Core.Bool.{Bool, true, false, cond}
 use mathlib.Core.Logic.{_⊎_, inl, inr}
 use mathlib.Core.List.{List, _++_, append-assoc}
 use lib.ListN.{length, take, drop, length-append, length-drop, take-append-drop, List·getD-append}
-use lib.Seq.{length-take-le, getD-take, getD-drop, getD-append-add, take-add}
+use lib.Seq.{length-take-le, getD-take, getD-drop, getD-append-add, take-add, take-at, drop-at, drop-drop}
 use lib.Dec.{leb, ltb, eqb}
 use lib.IntN.{ℤ}
 use borrow.Author.Tests.{le-leb, lt-ltb, leb-true, ltb-true, eqb-true}
@@ -203,30 +203,71 @@ read-is-encoded s at next c all e =
     by-byte b 6 _ _ e (λ is. gives-encoded s at next c Close (at + 1) tt (before is nothing) refl one) λ e.
     by-byte b 7 _ _ e (λ is. gives-encoded s at next c End (at + 1) tt (before is nothing) refl one) never
 
--- ---- a command that is written
+-- ---- the place after a command that is read: past the command's own, and no further than the end. Of any numbers, bytes or not
 
-module _ (b : List ℕ) (at : ℕ) (l : List ℕ) (fits : at + length l ≤ length b) where
+module _ (s : List ℕ) (at : ℕ) (c : Command) (next : ℕ) where
+  gives-moves : (d : Command) (after : ℕ) → at < after → after ≤ length s → _≡_ {A = Report (Command × ℕ)} (gives (d, after)) (gives (c, next))
+      → (at < next) × (next ≤ length s)
+  gives-moves d after past inside e = subst (λ (r : Command × ℕ). (at < r .1) × (r .1 ≤ length s)) (figure-is e) (past, inside)
+
+  whole-moves : (width : ℕ) (d : Command) → whole s (at + 1) width d ≡ gives (c, next) → (at < next) × (next ≤ length s)
+  whole-moves width d e =
+      let w = test-passed (leb (at + 1 + width) (length s)) 3 (gives (d, at + 1 + width)) e in
+      gives-moves d (at + 1 + width) (omega arith) (leb-true (at + 1 + width) (length s) (w .0)) (w .1)
+
+  pub read-moves : read s at ≡ gives (c, next) → (at < next) × (next ≤ length s)
+  unfolding read commandFrom speciesFrom factorFrom openFrom measuredFrom heightFrom
+  read-moves e =
+      let b = byte s at in
+      let start = test-passed (ltb at (length s)) 1 (commandFrom b s (at + 1)) e in
+      let one : at + 1 ≤ length s = omega (arith, ltb-true at (length s) (start .0)) in
+      by-byte b 1 _ _ (start .1) (λ is. whole-moves 20 _) λ e.
+      by-byte b 2 _ _ e (λ is. whole-moves 2 _) λ e.
+      by-byte b 3 _ _ e (λ is. whole-moves 10 _) λ e.
+      by-byte b 4 _ _ e (λ is. whole-moves 3 _) λ e.
+      by-byte b 5 _ _ e (λ is. whole-moves 3 _) λ e.
+      by-byte b 6 _ _ e (λ is. gives-moves Close (at + 1) (omega arith) one) λ e.
+      by-byte b 7 _ _ e (λ is. gives-moves End (at + 1) (omega arith) one) never
+
+-- ---- bytes that are laid from a place on
+
+module _ (b : List ℕ) (at : ℕ) (l : List ℕ) (inside : at ≤ length b) where
   length-before : length (take at b) ≡ at
-  length-before = length-take-le at b (omega arith)
+  length-before = length-take-le at b inside
 
-  length-laid : length (laidAt b at l) ≡ length b
-  unfolding laidAt
-  length-laid = simp (length-append, length-drop, length-before) (omega arith)
+  length-front : length (take at b ++ l) ≡ at + length l
+  length-front = simp (length-append, length-before)
 
-  stands-laid : Stands l (laidAt b at l) at
+  -- they stand there
+  pub stands-laid : Stands l (laidAt b at l) at
   unfolding laidAt
   stands-laid = stands-at (stands-between (take at b) l (drop (at + length l) b)) length-before
 
-  laid-keeps : (i : ℕ) → (i < at) ⊎ (at + length l ≤ i) → byte (laidAt b at l) i ≡ byte b i
+  -- every other byte stays
+  pub laid-keeps : (i : ℕ) → (i < at) ⊎ (at + length l ≤ i) → byte (laidAt b at l) i ≡ byte b i
   unfolding laidAt
   laid-keeps i (inl below) =
       rw append-assoc (List·getD-append (take at b) (l ++ drop (at + length l) b) 0 i (rw length-before below) ∙ getD-take at b i 0 below)
   laid-keeps i (inr above) =
       let n = i - (at + length l) in
-      let front : length (take at b ++ l) ≡ at + length l = simp (length-append, length-before) in
-      let there : i ≡ length (take at b ++ l) + n = omega arith in
+      let there : i ≡ length (take at b ++ l) + n = omega (arith, length-front) in
       ap (byte (take at b ++ l ++ drop (at + length l) b)) there ∙ getD-append-add (take at b ++ l) (drop (at + length l) b) n 0
       ∙ getD-drop (at + length l) b n 0 ∙ ap (byte b) (omega arith)
+
+  -- more that is laid right after them is laid as if it came with them
+  pub laid-then : (m : List ℕ) → laidAt (laidAt b at l) (at + length l) m ≡ laidAt b at (l ++ m)
+  unfolding laidAt
+  laid-then m =
+      let rest = drop (at + length l) b in
+      let kept : drop (at + length l + length m) (take at b ++ l ++ rest) ≡ drop (at + length l + length m) b =
+      sym (drop-drop (length m) (at + length l) (take at b ++ l ++ rest)) ∙ ap (drop (length m)) (drop-at (take at b ++ l) rest (at + length l) length-front)
+      ∙ drop-drop (length m) (at + length l) b in
+      rw (take-at (take at b ++ l) rest (at + length l) length-front, kept, append-assoc (take at b) l m, length-append, add-assoc)
+
+-- where there is room for them, nothing gets longer
+pub length-laid : (b : List ℕ) (at : ℕ) (l : List ℕ) → at + length l ≤ length b → length (laidAt b at l) ≡ length b
+unfolding laidAt
+length-laid b at l fits = simp (length-append, length-drop, length-before b at l (omega arith)) (omega arith)
 
 -- a list that is laid where it stands already
 laid-again : (s : List ℕ) (at : ℕ) (l : List ℕ) → take (length l) (drop at s) ≡ l → laidAt s at l ≡ s
@@ -234,6 +275,8 @@ unfolding laidAt
 laid-again s at l taken =
     ap (λ (m : List ℕ). take at s ++ m ++ drop (at + length l) s) (sym taken)
     ∙ rw (← take-add at (length l) s) (take-append-drop (at + length l) s)
+
+-- ---- a command that is written
 
 -- what is answered and what the buffer then is, where the command fits and where not
 pub write-gives : (b : List ℕ) (at : ℕ) (c : Command) → at + length (encode c) ≤ length b → write b at c ≡ gives (at + length (encode c))
@@ -255,7 +298,7 @@ buffer-cases P b at c laid left = by-test (fitsAt b at c) refl
 
 -- "only the command's bytes change"
 pub write-keeps : (b : List ℕ) (at : ℕ) (c : Command) (i : ℕ) → (i < at) ⊎ (at + length (encode c) ≤ i) → byte (bufferAfter b at c) i ≡ byte b i
-write-keeps b at c i outside = buffer-cases (λ l. byte l i ≡ byte b i) b at c (λ fits. laid-keeps b at (encode c) fits i outside) refl
+write-keeps b at c i outside = buffer-cases (λ l. byte l i ≡ byte b i) b at c (λ fits. laid-keeps b at (encode c) (omega arith) i outside) refl
 
 pub write-keeps-length : (b : List ℕ) (at : ℕ) (c : Command) → length (bufferAfter b at c) ≡ length b
 write-keeps-length b at c = buffer-cases (λ l. length l ≡ length b) b at c (length-laid b at (encode c)) refl
@@ -271,7 +314,7 @@ write-read b at next c f e =
     let w = test-passed (fitsAt b at c) 4 (gives (at + length (encode c))) e in
     let fits : at + length (encode c) ≤ length b = leb-true (at + length (encode c)) (length b) (w .0) in
     rw (buffer-laid b at c fits, ← figure-is (w .1))
-    (read-encoded (laidAt b at (encode c)) at c f (stands-laid b at (encode c) fits) (rw (length-laid b at (encode c) fits) fits))
+    (read-encoded (laidAt b at (encode c)) at c f (stands-laid b at (encode c) (omega arith)) (rw (length-laid b at (encode c) fits) fits))
 
 -- "the bytes of a command read and written again are the same bytes"
 pub read-write : (s : List ℕ) (at next : ℕ) (c : Command) → AllBytes s → read s at ≡ gives (c, next)

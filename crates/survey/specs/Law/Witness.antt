@@ -7,15 +7,14 @@ use mathlib.Core.Bool.{true≢false}
 use lib.ListN.{set}
 use lib.Seq.{getD-set-same}
 use lib.Dec.{lit≤, lit<}
-use lib.IntN.{pos, negℤ}
 use Rattle.biomass.specs.Report.{Report, refused, gives}
 use Rattle.survey.specs.Line.{begun, factorAt, withTrees, measured}
 use Rattle.survey.specs.Survey.{After, leaves, undeclared, fresh, speciesAt, withSpecies, withLine, withOpened, declare, opened, openLine, measure, finish, apply}
 use Rattle.survey.specs.Valid.{Valid}
+use Rattle.survey.specs.Listing.{listed, species3, line1, fourTrees}
 use Rattle.survey.specs.Law.Checks.{true-declared}
 use Rattle.survey.specs.Law.Taken.{declare-gives, factor-gives, open-gives, measure-gives, height-gives, close-gives, finish-gives}
 use Rattle.survey.specs.Law.Limit.{AtLimit, limit-told}
-use Rattle.survey.specs.declared.command.Species.{Species}
 use Rattle.survey.specs.declared.command.Command.{Command}
 use Rattle.survey.specs.declared.survey.Survey.{Survey}
 
@@ -85,9 +84,6 @@ heights-below-limit cm tenths s u below e =
 
 -- ---- at one place: the commands of the listing, up to its first measured trees, and the end of an empty book
 
-abbrev listed : Species
-listed = record { crown = 7; root = 5; gravity = 56; c1 = pos 58830000; c2 = pos 20123000; c3 = negℤ (pos 54780); c4 = negℤ (pos 57397) }
-
 unfoldable pub withSpecies3 : Survey
 unfolding fresh
 withSpecies3 = withSpecies fresh (set (fresh .species) 3 listed)
@@ -101,24 +97,24 @@ unfolding withLine1
 withFourTrees = withLine withLine1 (withTrees 60 4 (withLine1 .line))
 
 -- each command is taken, and leaves the next of these surveys
-pub species-taken : leaves fresh (apply (Command.Species 3 listed) fresh) ≡ record { survey = withSpecies3; refusal = 0 }
+pub species-taken : leaves fresh (apply species3 fresh) ≡ record { survey = withSpecies3; refusal = 0 }
 unfolding fresh declare withSpecies3
 species-taken = refl
 
-pub line-taken : leaves withSpecies3 (apply (Command.Open 1 3 6 1) withSpecies3) ≡ record { survey = withLine1; refusal = 0 }
+pub line-taken : leaves withSpecies3 (apply line1 withSpecies3) ≡ record { survey = withLine1; refusal = 0 }
 unfolding fresh opened openLine withSpecies3 withLine1
 line-taken = refl
 
-pub trees-taken : leaves withLine1 (apply (Command.Measured 60 4) withLine1) ≡ record { survey = withFourTrees; refusal = 0 }
+pub trees-taken : leaves withLine1 (apply fourTrees withLine1) ≡ record { survey = withFourTrees; refusal = 0 }
 unfolding fresh measured measure withSpecies3 withLine1 withFourTrees
 trees-taken = refl
 
 -- none is swallowed: a line is open after the one, 4 trees are noted after the other, and an ended book has ended
-pub line-not-swallowed : leaves withSpecies3 (apply (Command.Open 1 3 6 1) withSpecies3) ≡ record { survey = withSpecies3; refusal = 0 } → ⊥
+pub line-not-swallowed : leaves withSpecies3 (apply line1 withSpecies3) ≡ record { survey = withSpecies3; refusal = 0 } → ⊥
 unfolding fresh withSpecies3 withLine1
 line-not-swallowed e = true≢false (ap (λ (x : After). x .survey .active) (sym line-taken ∙ e))
 
-pub trees-not-swallowed : leaves withLine1 (apply (Command.Measured 60 4) withLine1) ≡ record { survey = withLine1; refusal = 0 } → ⊥
+pub trees-not-swallowed : leaves withLine1 (apply fourTrees withLine1) ≡ record { survey = withLine1; refusal = 0 } → ⊥
 unfolding fresh withSpecies3 withLine1 withFourTrees
 trees-not-swallowed e = let four : _≡_ {A = ℕ} 4 0 = ap (λ (x : After). x .survey .line .n) (sym trees-taken ∙ e) in omega arith
 
@@ -127,10 +123,10 @@ unfolding fresh finish
 end-not-swallowed e = true≢false (ap (λ (x : After). x .survey .ended) e)
 
 -- and neither the line nor the trees are told 11
-pub line-not-over : leaves withSpecies3 (apply (Command.Open 1 3 6 1) withSpecies3) ≡ record { survey = withSpecies3; refusal = 11 } → ⊥
+pub line-not-over : leaves withSpecies3 (apply line1 withSpecies3) ≡ record { survey = withSpecies3; refusal = 11 } → ⊥
 unfolding fresh withSpecies3
 line-not-over e = lines-below-limit 1 3 6 1 withSpecies3 withSpecies3 (lit< tt) e
 
-pub trees-not-over : leaves withLine1 (apply (Command.Measured 60 4) withLine1) ≡ record { survey = withLine1; refusal = 11 } → ⊥
+pub trees-not-over : leaves withLine1 (apply fourTrees withLine1) ≡ record { survey = withLine1; refusal = 11 } → ⊥
 unfolding fresh withSpecies3 withLine1
 trees-not-over e = trees-below-limit 60 4 withLine1 withLine1 (lit≤ tt) e

@@ -1,8 +1,6 @@
 -- `survey::bytes::four` meets its contract: four bytes are two bytes and the two after them.
-use Prim.Native.Nat.{_+_}
 use native.Mathlib.Omega.{arith}
-use mathlib.Core.Path.{_≡_, ap}
-use Rattle.survey.specs.Bytes.{byte}
+use Rattle.survey.proofs.Digits.{number-split}
 use Rattle.survey.proofs.bytes.four.Statement.{statement}
 use Rattle.survey.proofs.bytes.four.Tie as tie
 
@@ -28,11 +26,7 @@ add-result : tie.Need-add-result
 add-result c = omega arith
 
 returns : tie.Need-returns
-returns c =
-    let a = c .before .before .before .args in
-    let third : byte (a .s .now) (a .at + 1 + 1) ≡ byte (a .s .now) (a .at + 2) = ap (byte (a .s .now)) (omega arith) in
-    let fourth : byte (a .s .now) (a .at + 1 + 1 + 1) ≡ byte (a .s .now) (a .at + 2 + 1) = ap (byte (a .s .now)) (omega arith) in
-    omega arith
+returns c = let a = c .before .before .before .args in rw (number-split 2 2 (a .s .now) (a .at), ← c .before .two .ensures, ← c .two2 .ensures)
 
 pub four-spec : {M : Type 1} → statement M
 four-spec =

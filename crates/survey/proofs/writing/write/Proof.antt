@@ -16,7 +16,7 @@ use Rattle.survey.specs.RoundTrip.{ReadsBack}
 use Rattle.survey.specs.Law.RoundTrip.{write-gives, buffer-laid, refused-keeps, reads-back}
 use Rattle.survey.specs.declared.command.Command.{Command}
 use Rattle.survey.specs.declared.command.Command.the-variants.{Species, Factor, Open, Measured, Height, Close, End}
-use Rattle.survey.specs.declared.writing.Encoded.{Encoded}
+use Rattle.survey.specs.declared.encoding.Encoded.{Encoded}
 use Rattle.survey.proofs.writing.write.Statement.{statement}
 use Rattle.survey.proofs.writing.write.Tie as tie
 

@@ -1,12 +1,12 @@
--- `survey::writing::Encoded::two` meets its contract: two bytes, one after the other.
+-- `survey::encoding::Encoded::two` meets its contract: two bytes, one after the other.
 use Prim.Native.Nat.{_/_, _%_}
 use native.Mathlib.Nat.{div-one}
 use native.Mathlib.Omega.{arith}
 use mathlib.Core.List.{[], _∷_}
 use Rattle.survey.specs.Encoded.{held}
 use Rattle.survey.proofs.Growth.{grown-then}
-use Rattle.survey.proofs.writing.Encoded.two.Statement.{statement}
-use Rattle.survey.proofs.writing.Encoded.two.Tie as tie
+use Rattle.survey.proofs.encoding.Encoded.two.Statement.{statement}
+use Rattle.survey.proofs.encoding.Encoded.two.Tie as tie
 
 cast-one : tie.Need-cast-one
 cast-one c = omega arith

@@ -1,4 +1,4 @@
--- `survey::writing::Encoded::one` meets its contract: the byte is stored after the bytes held, and the length grows by one.
+-- `survey::encoding::Encoded::one` meets its contract: the byte is stored after the bytes held, and the length grows by one.
 use Prim.Native.Nat.{_<_}
 use native.Mathlib.Omega.{arith}
 use native.Mathlib.Numerals.{add-one}
@@ -6,8 +6,8 @@ use mathlib.Core.Path.{refl}
 use lib.ListN.{length}
 use lib.Seq.{take-suc-set}
 use borrow.Author.Needs.{needs}
-use Rattle.survey.proofs.writing.Encoded.one.Statement.{statement}
-use Rattle.survey.proofs.writing.Encoded.one.Tie as tie
+use Rattle.survey.proofs.encoding.Encoded.one.Statement.{statement}
+use Rattle.survey.proofs.encoding.Encoded.one.Tie as tie
 
 element-write-e : tie.Need-element-write-e
 element-write-e c = omega arith
@@ -18,7 +18,7 @@ add-e c = omega arith
 returns : tie.Need-returns
 returns c =
     let e = c .args .self in
-    let room : e .length < 21 = omega arith in
+    let room : e .length < 25 = omega arith in
     let within : e .length < length (e .bytes) = search needs in
     (rw add-one (take-suc-set (e .bytes) (e .length) (c .args .x) within), refl)
 

@@ -1,12 +1,12 @@
--- `survey::writing::lay` meets its contract. The loop's invariant: the first i bytes are laid, and nothing else has changed.
+-- `survey::encoding::lay` meets its contract. The loop's invariant: the first i bytes are laid, and nothing else has changed.
 use Prim.Native.Nat.{_+_, _-_, _≤_}
 use native.Mathlib.Omega.{arith}
 use native.Mathlib.Numerals.{add-one}
 use mathlib.Core.Path.{_≡_, _∙_, ap}
 use lib.ListN.{length, getD, set}
 use lib.Seq.{paste, paste-zero, paste-suc, length-paste}
-use Rattle.survey.proofs.writing.lay.Statement.{statement}
-use Rattle.survey.proofs.writing.lay.Tie as tie
+use Rattle.survey.proofs.encoding.lay.Statement.{statement}
+use Rattle.survey.proofs.encoding.lay.Tie as tie
 
 abbrev Inv-loop : tie.InvT-loop
 Inv-loop buffer₀ at n bytes i₀ buffer i = (i ≤ n) × (buffer ≡ paste buffer₀ at bytes i)

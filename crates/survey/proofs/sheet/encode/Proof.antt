@@ -1,0 +1,36 @@
+-- `survey::sheet::encode` meets its contract: the figures of the row, one after the other, each in its own width.
+use native.Mathlib.Omega.{arith}
+use Rattle.survey.specs.Sheet.{rowBytes}
+use Rattle.survey.proofs.Growth.{holds-then}
+use Rattle.survey.proofs.sheet.encode.Statement.{statement}
+use Rattle.survey.proofs.sheet.encode.Tie as tie
+
+encode-bytes-requires : tie.Need-encode-bytes-requires
+encode-bytes-requires c κs = tt
+
+two-requires : tie.Need-two-requires
+two-requires c κs = omega arith
+
+four-requires : tie.Need-four-requires
+four-requires c κs = omega arith
+
+eight-requires : tie.Need-eight-requires
+eight-requires c κs = omega arith
+
+eight-requires-2 : tie.Need-eight-requires-2
+eight-requires-2 c κs = omega arith
+
+returns : tie.Need-returns
+unfolding rowBytes
+returns c =
+    let trees = c .before .before in
+    holds-then _
+    (holds-then _
+    (holds-then _ (holds-then _ (trees .before .before .encode-bytes .ensures) (trees .before .two .ensures)) (trees .four .ensures))
+    (c .before .eight .ensures))
+    (c .eight2 .ensures)
+
+pub encode-spec : {M : Type 1} → statement M
+encode-spec =
+    tie.close
+    (tie.spec encode-bytes-requires two-requires four-requires eight-requires eight-requires-2 returns)

@@ -1,0 +1,121 @@
+-- `survey::total::add` meets its contract. The loop's invariant: the figures of the first i rows are added. The sums of 32 rows fit 64 bits.
+use Prim.Native.Nat.{ℕ, _+_, _-_, _*_, _≤_, _<_}
+use native.Mathlib.Omega.{arith}
+use native.Mathlib.Numerals.{add-one}
+use mathlib.Core.Path.{_≡_, _∙_, refl, sym, ap, ap₂}
+use lib.ListN.{length, getD, take}
+use lib.Seq.{length-take-le}
+use borrow.Author.Needs.{needs}
+use Rattle.biomass.specs.Ends.{between}
+use Rattle.survey.specs.Total.{sumOf, treesOf, lowOf, highOf}
+use Rattle.survey.specs.Law.Sums.{first-small, sums-small, sum-one-more}
+use Rattle.survey.specs.declared.row.Row.{Row}
+use Rattle.survey.proofs.total.add.Statement.{statement}
+use Rattle.survey.proofs.total.add.Tie as tie
+
+abbrev Inv-loop : tie.InvT-loop
+Inv-loop closed rows trees₀ low₀ high₀ i₀ trees low high i =
+    (i ≤ closed)
+    × (trees ≡ sumOf treesOf (take i rows))
+    × (low ≡ sumOf lowOf (take i rows))
+    × (high ≡ sumOf highOf (take i rows))
+
+abbrev μ-loop : tie.MeasureT-loop
+μ-loop closed rows trees₀ low₀ high₀ i₀ trees low high i = closed - i
+
+loop-holds : tie.Need-loop-holds Inv-loop μ-loop
+unfolding sumOf
+loop-holds c = (omega arith, refl, refl, refl)
+
+mul-row : tie.Need-mul-row Inv-loop μ-loop
+mul-row c = omega arith
+
+array-copy-out-row : tie.Need-array-copy-out-row Inv-loop μ-loop
+array-copy-out-row c = omega arith
+
+-- the row of a turn
+abbrev row-of : tie.In-loop Inv-loop μ-loop → Row
+row-of c =
+    getD (c .before .before .args .t1) (c .before .loop .i)
+    (record { stratum = 0; species = 0; tariff = 0; d = 0; trees = 0; biomass = between 0 0 })
+
+-- which is one of the 32
+kept : (c : tie.In-loop Inv-loop μ-loop) → c .before .loop .i < length (c .before .before .args .t1)
+kept c = let room : c .before .loop .i < 32 = omega arith in search needs
+
+-- the sum of the first rows grows by its figure
+grown : (c : tie.In-loop Inv-loop μ-loop) (figure : Row → ℕ) {sum : ℕ} → sum ≡ sumOf figure (take (c .before .loop .i) (c .before .before .args .t1))
+    → sum + figure (row-of c) ≡ sumOf figure (take (c .before .loop .i + 1) (c .before .before .args .t1))
+grown c figure is =
+    ap (λ (n : ℕ). n + figure (row-of c)) is
+    ∙ sym (rw add-one (sum-one-more figure (c .before .before .args .t1) (c .before .loop .i) _ (kept c)))
+
+-- and stays within 32 of the greatest rows
+bounded : (c : tie.In-loop Inv-loop μ-loop) →
+    let first = take (c .before .loop .i + 1) (c .before .before .args .t1) in
+    (sumOf treesOf first ≤ 100000000 * 32) × (sumOf lowOf first ≤ 26412187223000001 * 32) × (sumOf highOf first ≤ 26412187223000001 * 32)
+bounded c =
+    let rows = c .before .before .args .t1 in
+    let i = c .before .loop .i in
+    let some : length (take (i + 1) rows) ≡ i + 1 = length-take-le (i + 1) rows (omega (arith, kept c)) in
+    let b = sums-small (take (i + 1) rows) (first-small (i + 1) (c .before .before .args .closed) rows (omega arith) (c .before .before .pre .1)) in
+    (omega arith, omega arith, omega arith)
+
+cast-trees : tie.Need-cast-trees Inv-loop μ-loop
+cast-trees c =
+    let t = c .before .before .before in
+    omega (arith, grown t treesOf (t .before .loop .inv .1), bounded t .0)
+
+add-trees : tie.Need-add-trees Inv-loop μ-loop
+add-trees c =
+    let t = c .before .before .before in
+    omega (arith, grown t treesOf (t .before .loop .inv .1), bounded t .0)
+
+add-low : tie.Need-add-low Inv-loop μ-loop
+add-low c =
+    let t = c .before .before .before .before in
+    omega (arith, grown t lowOf (t .before .loop .inv .2), bounded t .1)
+
+add-high : tie.Need-add-high Inv-loop μ-loop
+add-high c =
+    let t = c .before .before .before .before .before in
+    omega (arith, grown t highOf (t .before .loop .inv .3), bounded t .2)
+
+add-i : tie.Need-add-i Inv-loop μ-loop
+add-i c = omega arith
+
+loop-less : tie.Need-loop-less Inv-loop μ-loop
+loop-less c = omega arith
+
+loop-again : tie.Need-loop-again Inv-loop μ-loop
+loop-again c =
+    let t = c .before .before .before .before .before in
+    let inv = t .before .loop .inv in
+    (omega arith, grown t treesOf (inv .1), grown t lowOf (inv .2), grown t highOf (inv .3))
+
+returns : tie.Need-returns Inv-loop μ-loop
+returns c =
+    let all : c .before .loop .i ≡ c .before .before .args .closed = omega arith in
+    let inv = c .before .loop .inv in
+    let rows = c .before .before .args .t1 in
+    let whole : (figure : Row → ℕ) → sumOf figure (take (c .before .loop .i) rows) ≡ sumOf figure (take (c .before .before .args .closed) rows) =
+    λ figure. ap (λ (n : ℕ). sumOf figure (take n rows)) all in
+    (inv .1 ∙ whole treesOf, ap₂ between (inv .2 ∙ whole lowOf) (inv .3 ∙ whole highOf))
+
+pub add-spec : {M : Type 1} → statement M
+add-spec =
+    tie.close
+    (tie.spec
+    Inv-loop
+    μ-loop
+    loop-holds
+    mul-row
+    array-copy-out-row
+    cast-trees
+    add-trees
+    add-low
+    add-high
+    add-i
+    loop-less
+    loop-again
+    returns)

@@ -1,0 +1,300 @@
+-- Playing a book: each command that is taken moves on within the book, so that playing comes to an end and stops nowhere but in the book or at its
+-- end; and every survey that it comes to is valid, since each command keeps it so (Law.Valid). What the bytes of a list of commands play to is what
+-- the commands do, since each is read back as it was written (Law.RoundTrip).
+use Prim.Native.Nat.{ℕ, zero, suc, _+_, _≤_, _<_}
+use native.Mathlib.Omega.{arith}
+use mathlib.Core.Path.{_≡_, _∙_, refl, sym, ap, ap₂, subst}
+use mathlib.Core.Bool.{Bool, true, false, cond}
+use mathlib.Core.List.{List, _++_}
+use lib.ListN.{length, length-append}
+use lib.Dec.{leb, ltb, eqb}
+use borrow.Author.Tests.{lt-ltb, le-ltb, ltb-false}
+use Rattle.biomass.specs.Report.{Report, refused, gives, unless, _then_}
+use Rattle.biomass.specs.Law.Gives.{made, figure-is, number-is}
+use Rattle.biomass.specs.Law.Declines.{Declines, gives-declines, unless-declines, then-declines}
+use Rattle.survey.specs.Refusal.{when}
+use Rattle.survey.specs.Bytes.{byte}
+use Rattle.survey.specs.Command.{encode}
+use Rattle.survey.specs.Reading.{whole, speciesFrom, factorFrom, openFrom, measuredFrom, heightFrom, commandFrom, read}
+use Rattle.survey.specs.Book.{encodeAll}
+use Rattle.survey.specs.Line.{measured, height}
+use Rattle.survey.specs.Survey.{fresh, withLine, withOpened, declare, giveFactor, openLine, measure, giveHeight, close, finish, apply}
+use Rattle.survey.specs.Playing.{Played, ended, stopped, step, met, afterEnd, playUpTo, playFrom, play, playList, Note, ofTheLine, notOfTheLine, noteOf, note}
+use Rattle.survey.specs.Valid.{Valid}
+use Rattle.survey.specs.Law.Bytes.{Stands, stands-first, stands-second, stands-itself}
+use Rattle.survey.specs.Law.RoundTrip.{read-encoded, read-moves}
+use Rattle.survey.specs.Law.Book.{AllFit, none, and-next, one-byte-at-least}
+use Rattle.survey.specs.Law.Checks.{cond-declines}
+use Rattle.survey.specs.Law.Valid.{fresh-valid, apply-valid}
+use Rattle.survey.specs.Law.Named.{refusal-from-five}
+use Rattle.survey.specs.declared.command.Command.{Command}
+use Rattle.survey.specs.declared.line.Line.{Line}
+use Rattle.survey.specs.declared.survey.Survey.{Survey}
+
+-- ---- one command
+
+-- a command that was read and applied, taken apart
+record Taken (book : List ℕ) (at : ℕ) (s t : Survey) (next : ℕ) : Type 0 where
+  command : Command
+  is-read : read book at ≡ gives (command, next)
+  is-applied : apply command s ≡ gives t
+
+taken : (book : List ℕ) (at : ℕ) (s t : Survey) (next : ℕ) → step book at s ≡ gives (t, next) → Taken book at s t next
+unfolding step
+taken book at s t next e =
+    let r = made (read book at) _ e in
+    let a = made (apply (r .figure .0) s) _ (r .next) in
+    subst (λ (x : Survey × ℕ). Taken book at s (x .0) (x .1)) (figure-is (a .next))
+    (record { command = r .figure .0; is-read = r .gave; is-applied = a .gave })
+
+-- a command that is read and applied ends past its place and within the book
+pub step-moves : (book : List ℕ) (at : ℕ) (s t : Survey) (next : ℕ) → step book at s ≡ gives (t, next) → (at < next) × (next ≤ length book)
+step-moves book at s t next e = let k = taken book at s t next e in read-moves book at (k .command) next (k .is-read)
+
+-- ---- how playing goes on from a place
+
+met-same : {A : Type 0} (at : ℕ) (r : Report A) (f g : A → Played) → ((a : A) → r ≡ gives a → f a ≡ g a) → met at r f ≡ met at r g
+met-same at (refused n) f g h = refl
+met-same at (gives a) f g h = h a refl
+
+-- from a place in the book or at its end, any number of commands above that of the bytes left is enough, since each takes a byte at least
+pub enough : (book : List ℕ) (at : ℕ) (s : Survey) (m n : ℕ) → at ≤ length book → length book < at + m → length book < at + n
+    → playUpTo m book at s ≡ playUpTo n book at s
+unfolding playUpTo
+enough book at s zero n inside m-enough n-enough = absurd (omega arith)
+enough book at s (suc m) zero inside m-enough n-enough = absurd (omega arith)
+enough book at s (suc m) (suc n) inside m-enough n-enough =
+    ap (cond (s .ended) (afterEnd book at s)) (met-same at (step book at s) _ _ λ r gave.
+    let moves = step-moves book at s (r .0) (r .1) gave in
+    enough book (r .1) (r .0) m n (moves .1) (omega arith) (omega arith))
+
+module _ (book : List ℕ) (at : ℕ) (s : Survey) where
+  -- it hangs on whether the book has ended, and on what comes of the next command
+  plays-by : {b : Bool} {r : Report (Survey × ℕ)} → s .ended ≡ b → step book at s ≡ r
+      → playFrom book at s ≡ cond b (afterEnd book at s) (met at r λ x. playUpTo (length book) book (x .1) (x .0))
+  unfolding playUpTo
+  plays-by =
+      ap₂ (λ (b : Bool) (r : Report (Survey × ℕ)). cond b (afterEnd book at s) (met at r λ x. playUpTo (length book) book (x .1) (x .0)))
+
+  -- a refused command stops the playing, at its place
+  pub plays-refused : (n : ℕ) → s .ended ≡ false → step book at s ≡ refused n → playFrom book at s ≡ stopped n at
+  plays-refused n not-ended e = plays-by not-ended e
+
+  -- and after one that is taken it goes on
+  pub plays-on : (t : Survey) (next : ℕ) → s .ended ≡ false → step book at s ≡ gives (t, next) → playFrom book at s ≡ playFrom book next t
+  plays-on t next not-ended e =
+      let moves = step-moves book at s t next e in
+      plays-by not-ended e ∙ enough book next t (length book) (suc (length book)) (moves .1) (omega arith) (omega arith)
+
+  -- after 07 there is no byte, or the first is refused
+  pub plays-after-end : s .ended ≡ true → playFrom book at s ≡ afterEnd book at s
+  plays-after-end is-ended = plays-by is-ended refl
+
+  -- a book that has ended is played where no byte is left
+  pub plays-end : s .ended ≡ true → length book ≤ at → playFrom book at s ≡ ended s
+  plays-end is-ended none-left = plays-after-end is-ended ∙ rw le-ltb
+
+  -- and "bytes after 07 get 5 at the first of them"
+  pub plays-past-end : s .ended ≡ true → at < length book → playFrom book at s ≡ stopped 5 at
+  plays-past-end is-ended some-left = plays-after-end is-ended ∙ rw lt-ltb
+
+-- ---- the open line alone
+
+-- what a note of the line makes of the survey: the other line; and where the command is not the line's own, whatever else comes of it
+abbrev carried : Survey → Report (Survey × ℕ) → Note → Report (Survey × ℕ)
+carried s other (ofTheLine m next) = gives (withLine s m, next)
+carried s other notOfTheLine = other
+
+-- what a command does to a survey, with the place after it
+abbrev applied : Command → ℕ → Survey → Report (Survey × ℕ)
+applied c next s = apply c s then λ t. gives (t, next)
+
+module _ (s : Survey) (l : Line) (not-ended : s .ended ≡ false) (is-open : s .active ≡ true) where
+  -- the line's own commands look at nothing else of a survey with an open line
+  line-carried : (next : ℕ) (other : Report (Survey × ℕ)) (line : Report Line)
+      → (when (s .ended) 5 (unless (s .active) 10 (line then λ m. gives (withLine s m))) then λ t. gives (t, next))
+      ≡ (line then λ m. gives (ofTheLine m next)) then carried s other
+  line-carried next other line =
+      ap₂ (λ (b o : Bool). when b 5 (unless o 10 (line then λ m. gives (withLine s m))) then λ t. gives (t, next)) not-ended is-open ∙ by-line line
+    where
+      by-line : (line : Report Line) → (line then λ m. gives (withLine s m)) then (λ t. gives (t, next))
+          ≡ (line then λ m. gives (ofTheLine m next)) then carried s other
+      by-line (refused n) = refl
+      by-line (gives m) = refl
+
+  apply-carried : (c : Command) (next : ℕ) → applied c next (withLine s l) ≡ noteOf c next l then carried s (applied c next (withLine s l))
+  unfolding measure giveHeight
+  apply-carried (Command.Species id species) next = refl
+  apply-carried (Command.Factor cm factor) next = refl
+  apply-carried (Command.Open stratum species p q) next = refl
+  apply-carried (Command.Measured class count) next = line-carried next _ (measured class count l)
+  apply-carried (Command.Height cm tenths) next = line-carried next _ (height cm tenths l)
+  apply-carried Command.Close next = refl
+  apply-carried Command.End next = refl
+
+  -- where a line is open, a command that is the line's own does to the survey what it does to the line
+  note-carried : (book : List ℕ) (at : ℕ) {r : Report Note} → note book at l ≡ r
+      → step book at (withLine s l) ≡ r then carried s (step book at (withLine s l))
+  unfolding note step
+  note-carried book at e = by-read (read book at) ∙ ap (λ (r : Report Note). r then carried s (step book at (withLine s l))) e
+    where
+      by-read : (r : Report (Command × ℕ)) → (r then λ x. applied (x .0) (x .1) (withLine s l))
+          ≡ (r then λ x. noteOf (x .0) (x .1) l) then carried s (r then λ x. applied (x .0) (x .1) (withLine s l))
+      by-read (refused n) = refl
+      by-read (gives (c, next)) = apply-carried c next
+
+pub note-line : (book : List ℕ) (at : ℕ) (s : Survey) (l m : Line) (next : ℕ) → s .ended ≡ false → s .active ≡ true
+    → note book at l ≡ gives (ofTheLine m next) → step book at (withLine s l) ≡ gives (withLine s m, next)
+note-line book at s l m next not-ended is-open e = note-carried s l not-ended is-open book at e
+
+pub note-refused : (book : List ℕ) (at : ℕ) (s : Survey) (l : Line) (n : ℕ) → s .ended ≡ false → s .active ≡ true
+    → note book at l ≡ refused n → step book at (withLine s l) ≡ refused n
+note-refused book at s l n not-ended is-open e = note-carried s l not-ended is-open book at e
+
+-- and moves on, as every command does
+pub note-moves : (book : List ℕ) (at : ℕ) (l m : Line) (next : ℕ) → note book at l ≡ gives (ofTheLine m next) → (at < next) × (next ≤ length book)
+unfolding fresh
+note-moves book at l m next e = step-moves book at _ _ next (note-line book at (withOpened fresh l) l m next refl refl e)
+
+-- ---- what a whole book comes to
+
+-- 1 is told at the end alone, and reading has no other number but 2 and 3
+module _ (such : ℕ → Type 0) (s : List ℕ) (two : such 2) (three : such 3) where
+  whole-declines : (from width : ℕ) (c : Command) → Declines such (whole s from width c)
+  whole-declines from width c =
+      unless-declines such (leb (from + width) (length s)) 3 _ (λ short. three) (λ fits. gives-declines such (c, from + width))
+
+  read-declines : (at : ℕ) → (length s ≤ at → such 1) → Declines such (read s at)
+  unfolding read commandFrom speciesFrom factorFrom openFrom measuredFrom heightFrom
+  read-declines at one =
+      let b = byte s at in
+      unless-declines such (ltb at (length s)) 1 _ (λ out. one (ltb-false at (length s) out)) (λ inside.
+      cond-declines such (eqb b 1) _ _ (whole-declines (at + 1) 20 _)
+      (cond-declines such (eqb b 2) _ _ (whole-declines (at + 1) 2 _)
+      (cond-declines such (eqb b 3) _ _ (whole-declines (at + 1) 10 _)
+      (cond-declines such (eqb b 4) _ _ (whole-declines (at + 1) 3 _)
+      (cond-declines such (eqb b 5) _ _ (whole-declines (at + 1) 3 _)
+      (cond-declines such (eqb b 6) _ _ (gives-declines such (Command.Close, at + 1))
+      (cond-declines such (eqb b 7) _ _ (gives-declines such (Command.End, at + 1))
+      (λ n e. subst such (number-is e) two))))))))
+
+-- no command is refused with 1 once it is read
+step-declines : (book : List ℕ) (at : ℕ) (s : Survey) → Declines (λ n. n ≡ 1 → length book ≤ at) (step book at s)
+unfolding step
+step-declines book at s =
+    let such : ℕ → Type 0 = λ n. n ≡ 1 → length book ≤ at in
+    then-declines such (read book at) _ (read-declines such book (λ e. absurd (omega arith)) (λ e. absurd (omega arith)) at (λ out one. out)) (λ r.
+    then-declines such (apply (r .0) s) _ (λ n e one. absurd (omega (arith, refusal-from-five (r .0) s n e))) (λ t.
+    gives-declines such (t, r .1)))
+
+-- the survey is valid and ended; the place is within the book, and that of 1 is its end
+abbrev pub Sound : List ℕ → Played → Type 0
+Sound book (ended s) = Valid s × (s .ended ≡ true)
+Sound book (stopped n at) = (at ≤ length book) × (n ≡ 1 → at ≡ length book)
+
+-- what holds either way of a test, and whatever comes of a command
+module _ (P : Played → Type 0) where
+  cond-cases : (test : Bool) (p q : Played) → (test ≡ true → P p) → (test ≡ false → P q) → P (cond test p q)
+  cond-cases true p q this other = this refl
+  cond-cases false p q this other = other refl
+
+  met-cases : {A : Type 0} (at : ℕ) (r : Report A) (f : A → Played)
+      → ((n : ℕ) → r ≡ refused n → P (stopped n at)) → ((a : A) → r ≡ gives a → P (f a)) → P (met at r f)
+  met-cases at (refused n) f stops goes-on = stops n refl
+  met-cases at (gives a) f stops goes-on = goes-on a refl
+
+-- from a valid survey on: each command keeps it valid and moves on, and only reading tells 1, at the end
+pub plays-sound : (most : ℕ) (book : List ℕ) (at : ℕ) (s : Survey) → Valid s → at ≤ length book → length book < at + most
+    → Sound book (playUpTo most book at s)
+unfolding playUpTo
+plays-sound zero book at s v inside enough = absurd (omega arith)
+plays-sound (suc most) book at s v inside enough =
+    cond-cases (Sound book) (s .ended) _ _
+    (λ is-ended.
+    cond-cases (Sound book) (ltb at (length book)) _ _ (λ some-left. (inside, λ one. absurd (omega arith))) (λ none-left. (v, is-ended)))
+    (λ not-ended.
+    met-cases (Sound book) at (step book at s) _
+    (λ n e. (inside, λ one. let end = step-declines book at s n e one in omega arith))
+    (λ r e.
+    let k = taken book at s (r .0) (r .1) e in
+    let moves = step-moves book at s (r .0) (r .1) e in
+    plays-sound most book (r .1) (r .0) (apply-valid (k .command) s (r .0) v (k .is-applied)) (moves .1) (omega arith)))
+
+play-sound : (book : List ℕ) (p : Played) → play book ≡ p → Sound book p
+unfolding play
+play-sound book p e = subst (Sound book) e (plays-sound (suc (length book)) book 0 fresh fresh-valid (omega arith) (omega arith))
+
+-- every survey that a book is played to is valid, and ended
+pub play-valid : (book : List ℕ) (s : Survey) → play book ≡ ended s → Valid s
+play-valid book s e = play-sound book (ended s) e .0
+
+pub play-ended : (book : List ℕ) (s : Survey) → play book ≡ ended s → s .ended ≡ true
+play-ended book s e = play-sound book (ended s) e .1
+
+-- a refusal's place is within the book
+pub place-in-book : (book : List ℕ) (n at : ℕ) → play book ≡ stopped n at → at ≤ length book
+place-in-book book n at e = play-sound book (stopped n at) e .0
+
+-- "1 has the book's length"
+pub end-at-length : (book : List ℕ) (at : ℕ) → play book ≡ stopped 1 at → at ≡ length book
+end-at-length book at e = play-sound book (stopped 1 at) e .1 refl
+
+-- ---- a book given as its commands
+
+-- "5 the book has ended, first of all"
+when-ended : (s : Survey) (rest : Report Survey) → s .ended ≡ true → when (s .ended) 5 rest ≡ refused 5
+when-ended s rest e = ap (λ (b : Bool). when b 5 rest) e
+
+ended-refuses : (c : Command) (s : Survey) → s .ended ≡ true → apply c s ≡ refused 5
+unfolding declare giveFactor openLine measure giveHeight close finish
+ended-refuses (Command.Species id species) s e = when-ended s _ e
+ended-refuses (Command.Factor cm factor) s e = when-ended s _ e
+ended-refuses (Command.Open stratum species p q) s e = when-ended s _ e
+ended-refuses (Command.Measured class count) s e = when-ended s _ e
+ended-refuses (Command.Height cm tenths) s e = when-ended s _ e
+ended-refuses Command.Close s e = when-ended s _ e
+ended-refuses Command.End s e = when-ended s _ e
+
+-- at the end no command is read
+step-at-end : (book : List ℕ) (at : ℕ) (s : Survey) → length book ≤ at → step book at s ≡ refused 1
+unfolding step read
+step-at-end book at s none-left = rw le-ltb
+
+-- a command that is known to stand there
+module _ (book : List ℕ) (at : ℕ) (s : Survey) (c : Command) (next : ℕ) (reads : read book at ≡ gives (c, next)) where
+  step-applies : {r : Report Survey} → apply c s ≡ r → step book at s ≡ r then λ t. gives (t, next)
+  unfolding step
+  step-applies e =
+      ap (λ (r : Report (Command × ℕ)). r then λ x. applied (x .0) (x .1) s) reads ∙ ap (λ (r : Report Survey). r then λ t. gives (t, next)) e
+
+  plays-command : (rest : Survey → Played) → at < length book → ((t : Survey) → playFrom book next t ≡ rest t)
+      → playFrom book at s ≡ met at (apply c s) rest
+  plays-command rest inside goes-on = by-ended (s .ended) refl
+    where
+      by-ended : (b : Bool) → s .ended ≡ b → playFrom book at s ≡ met at (apply c s) rest
+      by-ended true is-ended =
+          plays-past-end book at s is-ended inside ∙ ap (λ (r : Report Survey). met at r rest) (sym (ended-refuses c s is-ended))
+      by-ended false not-ended =
+          met-cases (λ p. playFrom book at s ≡ p) at (apply c s) rest (λ n e. plays-refused book at s n not-ended (step-applies e))
+          (λ t e. plays-on book at s t next not-ended (step-applies e) ∙ goes-on t)
+
+-- the commands from a place on to the end of the book
+plays-list : (book : List ℕ) (at : ℕ) (s : Survey) (cs : List Command) → AllFit cs → Stands (encodeAll cs) book at
+    → at + length (encodeAll cs) ≡ length book → playFrom book at s ≡ playList cs at s
+unfolding encodeAll playList
+plays-list book at s cs none h ends =
+    cond-cases (λ p. playFrom book at s ≡ p) (s .ended) (ended s) (stopped 1 at)
+    (λ is-ended. plays-end book at s is-ended (omega arith))
+    (λ not-ended. plays-refused book at s 1 not-ended (step-at-end book at s (omega arith)))
+plays-list book at s cs (and-next {c} {cs = rest} f fs) h ends =
+    let one = one-byte-at-least c in
+    let both : length (encode c ++ encodeAll rest) ≡ length (encode c) + length (encodeAll rest) = length-append (encode c) (encodeAll rest) in
+    let after = at + length (encode c) in
+    let first : read book at ≡ gives (c, after) = read-encoded book at c f (stands-first (encode c) (encodeAll rest) h) (omega arith) in
+    plays-command book at s c after first (playList rest after) (omega arith) λ t.
+    plays-list book after t rest fs (stands-second (encode c) (encodeAll rest) h) (omega arith)
+
+-- a book of commands plays as its commands do, one after the other
+pub play-of-list : (cs : List Command) → AllFit cs → play (encodeAll cs) ≡ playList cs 0 fresh
+unfolding play
+play-of-list cs fs = let book = encodeAll cs in plays-list book 0 fresh cs fs (stands-itself book) (omega arith)

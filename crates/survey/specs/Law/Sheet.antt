@@ -1,0 +1,137 @@
+-- What is proved of the sheet, row by row and byte by byte: each row stands in its own 25 bytes, no byte past the last row changes, and a row that is
+-- laid is read back as it was.
+use Prim.Native.Nat.{ℕ, zero, suc, _+_, _*_, _≤_, _<_, zero-le}
+use native.Mathlib.Nat.{le-of-suc-le-suc, not-suc-le-zero}
+use native.Mathlib.Numerals.{add-one}
+use native.Mathlib.Omega.{arith}
+use mathlib.Core.Path.{_≡_, _∙_, refl, ap}
+use mathlib.Core.Logic.{inr}
+use mathlib.Core.List.{List, [], _∷_, _++_, append-assoc, append-nil}
+use lib.ListN.{length, take, drop, getD, length-append}
+use lib.Seq.{length-take-le, take-suc}
+use borrow.Author.Tests.{le-leb}
+use Rattle.biomass.specs.Report.{gives}
+use Rattle.survey.specs.Bytes.{byte, numberAt, bytes}
+use Rattle.survey.specs.Writing.{laidAt}
+use Rattle.survey.specs.Valid.{Valid}
+use Rattle.survey.specs.Sheet.{rowBytes, sheetBytes, rowsOf, rowFrom, findRow}
+use Rattle.survey.specs.Law.Bytes.{Stands, before, stands-at, stands-first, stands-second, stands-taken, byte-alone, number-of-bytes}
+use Rattle.survey.specs.Law.RoundTrip.{length-laid, stands-laid, laid-keeps, laid-then}
+use Rattle.survey.specs.declared.row.Row.{Row}
+use Rattle.survey.specs.declared.survey.Survey.{Survey}
+
+-- ---- how long rows are
+
+pub length-row : (r : Row) → length (rowBytes r) ≡ 25
+unfolding rowBytes
+length-row r = refl
+
+pub length-sheet : (rs : List Row) → length (sheetBytes rs) ≡ 25 * length rs
+unfolding sheetBytes
+length-sheet [] = refl
+length-sheet (r ∷ rs) = rw length-append (omega (arith, length-row r, length-sheet rs))
+
+-- ---- the rows one after the other
+
+-- the bytes of some rows and of one more
+sheet-snoc : (rs : List Row) (r : Row) → sheetBytes (rs ++ (r ∷ [])) ≡ sheetBytes rs ++ rowBytes r
+unfolding sheetBytes
+sheet-snoc [] r = append-nil (rowBytes r)
+sheet-snoc (q ∷ rs) r = rw (sheet-snoc rs r, append-assoc)
+
+-- rows that stand from a place on stand 25 bytes apart
+row-apart : (rows : List Row) (i : ℕ) (z : Row) {s : List ℕ} {at : ℕ} → i < length rows → Stands (sheetBytes rows) s at
+    → Stands (rowBytes (getD rows i z)) s (at + 25 * i)
+unfolding sheetBytes
+row-apart [] i z inside h = absurd (not-suc-le-zero inside)
+row-apart (r ∷ rows) zero z inside h = stands-at (stands-first (rowBytes r) (sheetBytes rows) h) (omega arith)
+row-apart (r ∷ rows) (suc i) z inside h =
+    let apart = row-apart rows i z (le-of-suc-le-suc inside) (stands-second (rowBytes r) (sheetBytes rows) h) in
+    stands-at apart (omega (arith, length-row r))
+
+-- ---- a row in its 25 bytes
+
+-- the row's figures fit their bytes
+pub record RowFits (r : Row) : Type 0 where
+  pub stratum : r .stratum < 256
+  pub species : r .species < 256
+  pub tariff : r .tariff < 256
+  pub d : r .d < 65536
+  pub trees : r .trees < 4294967296
+  pub low : r .biomass .low .0 < 18446744073709551616
+  pub high : r .biomass .high .0 < 18446744073709551616
+
+-- such a row is read back from where its bytes stand
+row-of-bytes : (r : Row) (s : List ℕ) (at : ℕ) → RowFits r → Stands (rowBytes r) s at → rowFrom s at ≡ r
+unfolding rowBytes rowFrom
+row-of-bytes r s at f (before e₁ (before e₂ (before e₃ h))) =
+    let b₂ = bytes 2 (r .d) in
+    let b₄ = bytes 4 (r .trees) in
+    let b₈ = bytes 8 (r .biomass .low .0) in
+    let b₈' = bytes 8 (r .biomass .high .0) in
+    let three = stands-first (b₂ ++ b₄ ++ b₈) b₈' h in
+    let two = stands-first (b₂ ++ b₄) b₈ three in
+    let stratum : byte s at ≡ r .stratum = e₁ ∙ byte-alone (r .stratum) (f .stratum) in
+    let species : byte s (at + 1) ≡ r .species = e₂ ∙ byte-alone (r .species) (f .species) in
+    let tariff : byte s (at + 2) ≡ r .tariff = ap (byte s) (omega arith) ∙ e₃ ∙ byte-alone (r .tariff) (f .tariff) in
+    let d : numberAt 2 s (at + 3) ≡ r .d = number-of-bytes 2 (r .d) (f .d) (stands-at (stands-first b₂ b₄ two) (omega arith)) in
+    let trees : numberAt 4 s (at + 5) ≡ r .trees = number-of-bytes 4 (r .trees) (f .trees) (stands-at (stands-second b₂ b₄ two) (omega arith)) in
+    let low : numberAt 8 s (at + 9) ≡ r .biomass .low .0 =
+    number-of-bytes 8 (r .biomass .low .0) (f .low) (stands-at (stands-second (b₂ ++ b₄) b₈ three) (omega arith)) in
+    let high : numberAt 8 s (at + 17) ≡ r .biomass .high .0 =
+    number-of-bytes 8 (r .biomass .high .0) (f .high) (stands-at (stands-second (b₂ ++ b₄ ++ b₈) b₈' h) (omega arith)) in
+    rw (stratum, species, tariff, d, trees, low, high)
+
+module _ (sheet : List ℕ) (rows : List Row) where
+  -- the rows before the i-th, and then the i-th after them
+  pub laid-one-more : (i : ℕ) (z : Row) → i < length rows
+      → laidAt (laidAt sheet 0 (sheetBytes (take i rows))) (25 * i) (rowBytes (getD rows i z)) ≡ laidAt sheet 0 (sheetBytes (take (i + 1) rows))
+  laid-one-more i z inside =
+      let b = sheetBytes (take i rows) in
+      let place : 25 * i ≡ 0 + length b = omega (arith, length-sheet (take i rows), length-take-le i rows (omega arith)) in
+      let next : sheetBytes (take (i + 1) rows) ≡ b ++ rowBytes (getD rows i z) =
+      rw (add-one, take-suc rows i z inside) (sheet-snoc (take i rows) (getD rows i z)) in
+      rw (place, next) (laid-then sheet 0 b zero-le (rowBytes (getD rows i z)))
+
+  -- nothing past the rows changes
+  pub rest-stays : (j : ℕ) → 25 * length rows ≤ j → byte (laidAt sheet 0 (sheetBytes rows)) j ≡ byte sheet j
+  rest-stays j past = laid-keeps sheet 0 (sheetBytes rows) zero-le j (inr (omega (arith, length-sheet rows)))
+
+  module _ (room : 25 * length rows ≤ length sheet) where
+    -- a sheet that the rows fit is as long as it was
+    pub laid-length : length (laidAt sheet 0 (sheetBytes rows)) ≡ length sheet
+    laid-length = length-laid sheet 0 (sheetBytes rows) (omega (arith, length-sheet rows))
+
+    module _ (i : ℕ) (z : Row) (inside : i < length rows) where
+      fits : 25 * i + 25 ≤ length (laidAt sheet 0 (sheetBytes rows))
+      fits = omega (arith, laid-length)
+
+      stands : Stands (rowBytes (getD rows i z)) (laidAt sheet 0 (sheetBytes rows)) (25 * i)
+      stands = stands-at (row-apart rows i z inside (stands-laid sheet 0 (sheetBytes rows) zero-le)) (omega arith)
+
+      -- "A row is 25 bytes ... in closing order": the i-th stands from byte 25·i on
+      pub row-stands : take 25 (drop (25 * i) (laidAt sheet 0 (sheetBytes rows))) ≡ rowBytes (getD rows i z)
+      row-stands =
+          let r = getD rows i z in
+          rw (length-row r) at (stands-taken (rowBytes r) (laidAt sheet 0 (sheetBytes rows)) (25 * i) stands (omega (arith, fits, length-row r)))
+
+      -- a row that is laid and read is the same row
+      pub row-reads-back : RowFits (getD rows i z) → findRow (laidAt sheet 0 (sheetBytes rows)) i ≡ gives (getD rows i z)
+      unfolding findRow
+      row-reads-back f =
+          let laid = laidAt sheet 0 (sheetBytes rows) in
+          rw (le-leb (25 * i + 25) (length laid) fits) (ap gives (row-of-bytes (getD rows i z) laid (25 * i) f stands))
+
+-- ---- the rows of a valid survey
+
+module _ (s : Survey) (v : Valid s) where
+  -- as many as there are closed lines
+  pub rows-number : length (rowsOf s) ≡ s .closed
+  rows-number = length-take-le (s .closed) (s .rows) (omega (arith, v .lines, v .places))
+
+  pub at-most-32 : length (rowsOf s) ≤ 32
+  at-most-32 = omega (arith, rows-number, v .lines)
+
+  -- "800 bytes" are room for 32 rows
+  pub sheet-as-long : (sheet : List ℕ) → 800 ≤ length sheet → length (laidAt sheet 0 (sheetBytes (rowsOf s))) ≡ length sheet
+  sheet-as-long sheet room = laid-length sheet (rowsOf s) (omega (arith, at-most-32))

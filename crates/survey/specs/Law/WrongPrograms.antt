@@ -1,0 +1,144 @@
+-- "Offer these in turn and see them rejected." The six wrong programs of document 01's last section, and its low of 0: each is offered the listing and a sheet
+-- of 800 bytes or more, and what it would hand back is not what totalling promises. "Demand 2 shuts out all six. A low of 0 with a vast high falls to both 2
+-- and 3." (Law.Witness has the two of them that are about one command.)
+use Prim.Native.Nat.{ℕ, _≤_}
+use native.Mathlib.Omega.{arith}
+use mathlib.Core.Path.{_≡_, _∙_, sym, ap}
+use mathlib.Core.List.{List, [], _∷_, _++_}
+use lib.ListN.{length, take, drop}
+use lib.Dec.{lit≤, lit<}
+use lib.IntN.{pos}
+use borrow.Author.Tests.{le-ltb}
+use Rattle.biomass.specs.Trees as Trees
+use Rattle.biomass.specs.Fraction.{whole}
+use Rattle.biomass.specs.Exact.{Given, exactStem, exactCrown, exactRoot}
+use Rattle.biomass.specs.Law.Fraction.{≼-trans}
+use Rattle.biomass.specs.Law.Signed.{pos-le}
+use Rattle.survey.specs.Bytes.{byte, numberAt}
+use Rattle.survey.specs.Book.{encodeAll}
+use Rattle.survey.specs.Reading.{speciesFrom, openFrom, commandFrom, read}
+use Rattle.survey.specs.Writing.{laidAt}
+use Rattle.survey.specs.Line.{lineRow}
+use Rattle.survey.specs.Survey.{fresh, declare, opened, openLine, kept, close, finish}
+use Rattle.survey.specs.Playing.{step, playUpTo, play}
+use Rattle.survey.specs.Sheet.{rowBytes, sheetBytes}
+use Rattle.survey.specs.Total.{Answer, refusedAt, totalled, total, sheetAfter}
+use Rattle.survey.specs.Demand3.{Fractions, NoneAbove, more, none, added, exactSum, exactTotal, Demand3, Demanded, linesOf}
+use Rattle.survey.specs.Listing.{species3, line2, listing, listingTotals, listingLines, row1, row2}
+use Rattle.survey.specs.Law.Listing.{listing-totalled, listing-sheet, listing-lines}
+use Rattle.survey.specs.declared.command.Command.{Command}
+use Rattle.survey.specs.declared.total.Totals.{Totals}
+
+-- What totalling promises of the answer r and of the sheet afterwards: the three promises of `total` in src/total.rt
+pub record Promised (book sheet : List ℕ) (r : Answer) (after : List ℕ) : Type 0 where
+  pub answered : r ≡ total book sheet
+  pub laid : after ≡ sheetAfter book sheet
+  pub demand3 : Demanded book r
+
+-- ---- a second book, whose first line is the listing's second
+
+unfoldable pub secondLine : List ℕ
+secondLine = encodeAll (species3 ∷ line2 ∷ Command.Close ∷ Command.End ∷ [])
+
+second-sheet : (sheet : List ℕ) → 800 ≤ length sheet → sheetAfter secondLine sheet ≡ rowBytes row2 ++ drop 25 sheet
+unfolding
+    secondLine encodeAll speciesFrom openFrom commandFrom read fresh declare opened openLine lineRow kept close finish step playUpTo play
+    sheetAfter laidAt sheetBytes rowBytes
+second-sheet sheet room = rw (le-ltb (length sheet) 800 room)
+
+-- ---- "Demand 2 shuts out all six."
+
+module _ {sheet after : List ℕ} {r : Answer} (room : 800 ≤ length sheet) (promised : Promised listing sheet r after) where
+  -- the promised answer and the promised sheet
+  answer-is : r ≡ totalled listingTotals
+  answer-is = promised .answered ∙ listing-totalled sheet room
+
+  totals-are : (t : Totals) → r ≡ totalled t → t ≡ listingTotals
+  totals-are t e = cc answer-is
+
+  sheet-is : after ≡ rowBytes row1 ++ rowBytes row2 ++ drop 50 sheet
+  sheet-is = promised .laid ∙ listing-sheet sheet room
+
+  first-row : take 25 after ≡ rowBytes row1
+  unfolding rowBytes
+  first-row = ap (take 25) sheet-is
+
+  -- "a reader that declines every book": the last of the six first, since two of the others are cases of it
+  pub not-declined : (n at : ℕ) → r ≡ refusedAt n at → ⊥
+  not-declined n at e = let clash : _≡_ {A = ℕ} 0 1 = cc answer-is in omega arith
+
+  -- "A sheet whose first line is worked and whose later rows repeat it": the second row is of stratum 2
+  pub not-repeated : take 25 (drop 25 after) ≡ take 25 after → ⊥
+  unfolding rowBytes
+  not-repeated e =
+      let strata : _≡_ {A = ℕ} 2 1 = ap (λ (l : List ℕ). byte l 0) (rw sheet-is at e) in
+      omega arith
+
+  -- nor does it repeat the first one's figures under its own stratum and species
+  pub figures-not-repeated : take 23 (drop 27 after) ≡ take 23 (drop 2 after) → ⊥
+  unfolding rowBytes
+  figures-not-repeated e =
+      let tariffs : _≡_ {A = ℕ} 0 26 = ap (λ (l : List ℕ). byte l 0) (rw sheet-is at e) in
+      omega arith
+
+  -- "a survey that swallows commands unchanged": where the end is swallowed with them, the whole book is read, and there is no more
+  pub not-all-swallowed : r ≡ refusedAt 1 (length listing) → ⊥
+  not-all-swallowed e = not-declined 1 (length listing) e
+
+  -- and where all but the end are, no line is closed
+  pub lines-not-swallowed : (t : Totals) → r ≡ totalled t → t .rows ≡ 0 → ⊥
+  lines-not-swallowed t e none-closed =
+      let two : t .rows ≡ 2 = ap (λ (t : Totals). t .rows) (totals-are t e) in
+      omega arith
+
+  -- "one row for all books"
+  pub not-one-row : {sheet′ after′ : List ℕ} {r′ : Answer} → 800 ≤ length sheet′ → Promised secondLine sheet′ r′ after′
+      → (row : List ℕ) → take 25 after ≡ row → take 25 after′ ≡ row → ⊥
+  unfolding rowBytes
+  not-one-row {sheet′} room′ promised′ row e e′ =
+      let second = ap (take 25) (promised′ .laid ∙ second-sheet sheet′ room′) in
+      let strata : _≡_ {A = ℕ} 1 2 = ap (λ (l : List ℕ). byte l 0) (sym first-row ∙ e ∙ sym e′ ∙ second) in
+      omega arith
+
+  -- "a tree number not from step 3": the trees are step 3's of n 4, p 6 and q 1, in the totals and in the row
+  pub trees-from-step-3 : (t : Totals) → r ≡ totalled t → t .trees ≡ Trees.treesOf 4 6 1
+  trees-from-step-3 t e = ap (λ (t : Totals). t .trees) (totals-are t e)
+
+  pub row-from-step-3 : numberAt 4 after 5 ≡ Trees.treesOf 4 6 1
+  unfolding rowBytes
+  row-from-step-3 = ap (λ (l : List ℕ). numberAt 4 l 5) sheet-is
+
+  -- not the measured trees in hundredths, p and q left out; not in whole trees; nor both
+  pub no-other-trees : (t : Totals) → r ≡ totalled t → (t .trees ≡ 400 → ⊥) × (t .trees ≡ 24 → ⊥) × (t .trees ≡ 4 → ⊥)
+  no-other-trees t e = omega (arith, trees-from-step-3 t e)
+
+  -- "'32 lines' or 'over the limit' told of a survey below it"
+  pub limit-not-told : (at : ℕ) → r ≡ refusedAt 11 at → ⊥
+  limit-not-told at e = not-declined 11 at e
+
+  -- ---- "A low of 0 with a vast high falls to both 2 and 3."
+
+  -- to 2
+  pub low-not-zero : (t : Totals) → r ≡ totalled t → t .carbon .low .0 ≡ 0 → ⊥
+  low-not-zero t e zero-low =
+      let low : t .carbon .low .0 ≡ 92196262 = ap (λ (t : Totals). t .carbon .low .0) (totals-are t e) in
+      omega arith
+
+-- To 3, alone: with a low of 0 the high is at most 3 + 2400 div 1000, which is 5, and the exact value, of a tree that uses no power, is above that
+pub zero-low-not-demand-3 : (high : ℕ) → Demand3 (linesOf listing) 0 high → ⊥
+unfolding added exactSum exactTotal exactStem exactCrown exactRoot
+zero-low-not-demand-3 high demand =
+    let d : Demand3 listingLines 0 high = rw listing-lines at demand in
+    let high-at-most-5 : high ≤ 5 = d .gap in
+    ≼-trans {z = whole (pos 5)} (lit< tt) (d .not-over-the-high any no-powers) (record { cross = pos-le (omega arith) }) .cross .le
+  where
+    one : Given
+    one = record { r = 1; t = 1; t-at-least-1 = lit≤ tt }
+
+    any : Fractions
+    any = record { crown = λ i. one; root = λ i. one }
+
+    no-powers : NoneAbove any listingLines
+    no-powers =
+        more 0 _ _ (λ _. record { on-crown = λ (h : 600 ≤ 500). absurd (omega arith); on-root = λ (h : 600 ≤ 300). absurd (omega arith) })
+        (more 1 _ _ (λ (some : 1 ≤ 0). absurd (omega arith)) (none 2))

@@ -1,0 +1,103 @@
+-- "Totalling a book": its commands are applied to a fresh survey, one after the other, to the end of the book or to "the first refusal met, with the
+-- place of its command".
+use Prim.Native.Nat.{ℕ, zero, suc, _+_}
+use mathlib.Core.Bool.{cond}
+use mathlib.Core.List.{List, [], _∷_}
+use lib.ListN.{length}
+use lib.Dec.{ltb}
+use Rattle.biomass.specs.Report.{Report, refused, gives, _then_}
+use Rattle.survey.specs.Refusal.{number}
+use Rattle.survey.specs.Command.{encode}
+use Rattle.survey.specs.Reading.{read}
+use Rattle.survey.specs.Survey.{fresh, apply}
+use Rattle.survey.specs.declared.survey.Survey.{Survey}
+use Rattle.survey.specs.Line.{measured, height}
+use Rattle.survey.specs.declared.command.Command.{Command}
+use Rattle.survey.specs.declared.line.Line.{Line}
+use Rattle.survey.specs.declared.survey.Outcome.{Outcome}
+use Rattle.survey.specs.declared.playing.Played as Code
+use Rattle.survey.specs.declared.playing.Noting.{Noting}
+
+-- the survey at the end of the book, or the number of the first refusal and the place of its command
+pub data Played : Type 0 where
+  ended : Survey → Played
+  stopped : ℕ → ℕ → Played
+
+-- what the code answers
+abbrev pub played : Code.Played → Played
+played p = by-outcome (p .outcome)
+  where
+    by-outcome : Outcome → Played
+    by-outcome Outcome.Done = ended (p .survey)
+    by-outcome (Outcome.Refused why) = stopped (number why) (p .at)
+
+-- one command, read at the place and applied: the survey that it leaves, and the place after it
+unfoldable pub step : List ℕ → ℕ → Survey → Report (Survey × ℕ)
+step book at s =
+    read book at then λ r.
+    apply (r .0) s then λ t.
+    gives (t, r .1)
+
+-- what the code answers
+abbrev pub stepped : Code.Played → Report (Survey × ℕ)
+stepped p = by-outcome (p .outcome)
+  where
+    by-outcome : Outcome → Report (Survey × ℕ)
+    by-outcome Outcome.Done = gives (p .survey, p .at)
+    by-outcome (Outcome.Refused why) = refused (number why)
+
+-- what follows a command, unless it is refused, at its place
+abbrev pub met : {A : Type 0} → ℕ → Report A → (A → Played) → Played
+met at (refused n) next = stopped n at
+met at (gives a) next = next a
+
+-- "bytes after 07 get 5 at the first of them"
+abbrev pub afterEnd : List ℕ → ℕ → Survey → Played
+afterEnd book at s = cond (ltb at (length book)) (stopped 5 at) (ended s)
+
+-- The rest of the book from a place on. Each command takes a byte at least, so that with `most` above the number of bytes left it is never used up, and
+-- which such number it is makes no difference (Law.Playing: enough)
+unfoldable pub playUpTo : ℕ → List ℕ → ℕ → Survey → Played
+playUpTo zero book at s = stopped 1 at
+playUpTo (suc most) book at s =
+    cond (s .ended) (afterEnd book at s)
+    (met at (step book at s) λ r.
+    playUpTo most book (r .1) (r .0))
+
+abbrev pub playFrom : List ℕ → ℕ → Survey → Played
+playFrom book at s = playUpTo (suc (length book)) book at s
+
+-- "1 has the book's length": reading at the end answers 1, and no command ends past it (Law.Playing: end-at-length)
+unfoldable pub play : List ℕ → Played
+play book = playFrom book 0 fresh
+
+-- Commands as they stand in a book, from a place on: the book that holds them plays so (Law.Playing: play-of-list). A command after 07 is refused
+-- with 5 by applying it, and reading answers 1 where the commands run out before 07
+unfoldable pub playList : List Command → ℕ → Survey → Played
+playList [] at s = cond (s .ended) (ended s) (stopped 1 at)
+playList (c ∷ cs) at s = met at (apply c s) λ t. playList cs (at + length (encode c)) t
+
+-- ---- the open line alone. (A private part of the code, which leaves the survey aside while a line is noted; document 01 does not name it.)
+
+-- the line after a command and the place after it, or a command that is not one of the line's own
+pub data Note : Type 0 where
+  ofTheLine : Line → ℕ → Note
+  notOfTheLine : Note
+
+-- what the code answers
+abbrev pub noting : Noting → Report Note
+noting (Noting.Is l next) = gives (ofTheLine l next)
+noting Noting.NotOfTheLine = gives notOfTheLine
+noting (Noting.Refused why) = refused (number why)
+
+abbrev pub noteOf : Command → ℕ → Line → Report Note
+noteOf (Command.Species id species) next l = gives notOfTheLine
+noteOf (Command.Factor cm factor) next l = gives notOfTheLine
+noteOf (Command.Open stratum species p q) next l = gives notOfTheLine
+noteOf (Command.Measured class count) next l = measured class count l then λ m. gives (ofTheLine m next)
+noteOf (Command.Height cm tenths) next l = height cm tenths l then λ m. gives (ofTheLine m next)
+noteOf Command.Close next l = gives notOfTheLine
+noteOf Command.End next l = gives notOfTheLine
+
+unfoldable pub note : List ℕ → ℕ → Line → Report Note
+note book at l = read book at then λ r. noteOf (r .0) (r .1) l

@@ -1,0 +1,78 @@
+-- "Totalling a book into a sheet": the answer, and every byte of the sheet afterwards.
+use Prim.Native.Nat.{ℕ, _+_}
+use mathlib.Core.Bool.{Bool, cond}
+use mathlib.Core.List.{List, [], _∷_}
+use lib.ListN.{length}
+use lib.Dec.{ltb}
+use Rattle.biomass.specs.Ends.{between}
+use Rattle.biomass.specs.Project.{projectOf}
+use Rattle.biomass.specs.declared.units.BiomassRange.{BiomassRange}
+use Rattle.survey.specs.Refusal.{number}
+use Rattle.survey.specs.Writing.{laidAt}
+use Rattle.survey.specs.Playing.{Played, ended, stopped, play}
+use Rattle.survey.specs.Sheet.{rowsOf, sheetBytes}
+use Rattle.survey.specs.declared.row.Row.{Row}
+use Rattle.survey.specs.declared.total.Totals.{Totals}
+use Rattle.survey.specs.declared.total.Totalled.{Totalled}
+
+-- ---- what comes back
+
+-- the number of the refusal and its place, or the totals
+pub data Answer : Type 0 where
+  refusedAt : ℕ → ℕ → Answer
+  totalled : Totals → Answer
+
+-- what the code answers
+abbrev pub answer : Totalled → Answer
+answer (Totalled.Is t) = totalled t
+answer (Totalled.Refused why at) = refusedAt (number why) at
+
+-- ---- the totals
+
+-- "the N of all lines added", the "sum of row lows" and the "sum of row highs"
+unfoldable pub sumOf : (Row → ℕ) → List Row → ℕ
+sumOf figure [] = 0
+sumOf figure (r ∷ rs) = figure r + sumOf figure rs
+
+abbrev pub treesOf : Row → ℕ
+treesOf r = r .trees
+
+abbrev pub lowOf : Row → ℕ
+lowOf r = r .biomass .low .0
+
+abbrev pub highOf : Row → ℕ
+highOf r = r .biomass .high .0
+
+abbrev pub sums : List Row → BiomassRange
+sums rows = between (sumOf lowOf rows) (sumOf highOf rows)
+
+-- "the number of rows, the N of all lines added and the two project figures come back"
+unfoldable pub totalOf : List Row → Totals
+totalOf rows =
+    record {
+      rows = length rows;
+      trees = sumOf treesOf rows;
+      carbon = projectOf (sums rows) (sumOf treesOf rows);
+    }
+
+-- ---- totalling
+
+-- "16 sheet under 800 bytes, place 0"
+abbrev pub short : List ℕ → Bool
+short sheet = ltb (length sheet) 800
+
+-- "then the first refusal met, with the place of its command."
+abbrev pub answerOf : Played → Answer
+answerOf (stopped n at) = refusedAt n at
+answerOf (ended s) = totalled (totalOf (rowsOf s))
+
+unfoldable pub total : List ℕ → List ℕ → Answer
+total book sheet = cond (short sheet) (refusedAt 16 0) (answerOf (play book))
+
+-- "The sheet keeps every byte. On acceptance .. the rows stand from byte 0 on, and only the rows' bytes change."
+abbrev pub laidBy : List ℕ → Played → List ℕ
+laidBy sheet (stopped n at) = sheet
+laidBy sheet (ended s) = laidAt sheet 0 (sheetBytes (rowsOf s))
+
+unfoldable pub sheetAfter : List ℕ → List ℕ → List ℕ
+sheetAfter book sheet = cond (short sheet) sheet (laidBy sheet (play book))

@@ -1,0 +1,120 @@
+// Totalling a book into a lent sheet.
+use super::playing::play;
+use super::refusal::Refusal;
+use super::refusal::of_figure;
+use super::row::Row;
+use super::sheet::lay_rows;
+use super::survey::Outcome;
+use super::survey::Survey;
+use biomass::answer::Carbon;
+use biomass::project::project;
+use biomass::units::BiomassRange;
+use biomass::units::CarbonRange;
+use biomass::units::Milligrams;
+ghost use mathlib.Core.Path.{_≡_};
+ghost use Prim.Native.Nat.{_≤_};
+ghost use lib.ListN.{length, take};
+ghost use Rattle.survey.specs.Valid.{Valid};
+ghost use Rattle.survey.specs.Writing.{laidAt};
+ghost use Rattle.survey.specs.Sheet.{rowsOf, sheetBytes};
+ghost use Rattle.survey.specs.Total.{answer, treesOf, sumOf, sums, totalled, totalOf, total, sheetAfter};
+ghost use Rattle.survey.specs.Law.Sums.{RowsSmall};
+ghost use Rattle.survey.specs.Demand3.{Demanded};
+
+// What comes of an accepted book.
+pub struct Totals {
+    // How many rows stand in the sheet.
+    pub rows: usize,
+    // The estimated trees of all lines added, in hundredths.
+    pub trees: u64,
+    // The project's low and high.
+    pub carbon: CarbonRange,
+}
+
+// The totals, or the refusal and its place.
+pub enum Totalled {
+    Is(Totals),
+    Refused { why: Refusal, at: usize },
+}
+
+// The trees, the lows and the highs of all rows, each added.
+struct Sums {
+    trees: u64,
+    biomass: BiomassRange,
+}
+
+fn add(rows: [Row; 32], closed: usize) -> Sums
+    requires { ⌜ (closed ≤ 32) × RowsSmall (take closed rows) ⌝ }
+    ensures { λ r. ⌜ (r .trees ≡ sumOf treesOf (take closed rows)) × (r .biomass ≡ sums (take closed rows)) ⌝ }
+{
+    let mut trees: u64 = 0;
+    let mut low: u64 = 0;
+    let mut high: u64 = 0;
+    let mut i: usize = 0;
+    while i < closed {
+        let row = rows[i];
+        let m = row.biomass;
+        trees += row.trees as u64;
+        low += m.low.0;
+        high += m.high.0;
+        i += 1;
+    }
+    Sums {
+        trees,
+        biomass: BiomassRange {
+            low: Milligrams(low),
+            high: Milligrams(high),
+        },
+    }
+}
+
+// The rows of an ended survey laid, and its totals.
+fn lay_total(sheet: &mut [u8], survey: Survey) -> Totalled
+    requires { ⌜ Valid survey × (800 ≤ length (now sheet)) ⌝ }
+    ensures answer { λ r. ⌜ answer r ≡ totalled (totalOf (rowsOf survey)) ⌝ }
+    ensures laid { λ _. ⌜ now (sheet .exit) ≡ laidAt (now (sheet .entry)) 0 (sheetBytes (rowsOf survey)) ⌝ }
+{
+    let rows = survey.rows;
+    let closed = survey.closed;
+    let sums = add(rows, closed);
+    let trees = sums.trees;
+    let carbon = match project(sums.biomass, trees) {
+        Carbon::Is(carbon) => carbon,
+        // No survey has rows whose sums pass 64 bits.
+        Carbon::Refused(why) => {
+            return Totalled::Refused {
+                why: of_figure(why),
+                at: 0,
+            };
+        }
+    };
+    lay_rows(sheet, rows, closed);
+    Totalled::Is(Totals {
+        rows: closed,
+        trees,
+        carbon,
+    })
+}
+
+// Totals a book into a sheet. Where it is refused, the sheet is as it was.
+pub fn total(book: &[u8], sheet: &mut [u8]) -> Totalled
+    ensures answer { λ r. ⌜ answer r ≡ total (now (book .entry)) (now (sheet .entry)) ⌝ }
+    ensures laid { λ _. ⌜ now (sheet .exit) ≡ sheetAfter (now (book .entry)) (now (sheet .entry)) ⌝ }
+    ensures demand3 { λ r. ⌜ Demanded (now (book .entry)) (answer r) ⌝ }
+{
+    if sheet.len() < 800 {
+        return Totalled::Refused {
+            why: Refusal::ShortSheet,
+            at: 0,
+        };
+    }
+    let played = play(book);
+    let outcome = played.outcome;
+    match outcome {
+        Outcome::Refused(why) => Totalled::Refused { why, at: played.at },
+        Outcome::Done => {
+            let survey = played.survey;
+            lay_total(sheet, survey)
+        }
+    }
+}
