@@ -35,6 +35,12 @@ fn number(bytes: &[u8]) -> u64 {
     bytes.iter().fold(0, |high, &byte| high << 8 | u64::from(byte))
 }
 
+/// The bytes of numbers, each in so many, high byte first. Of one that is too great for its bytes the low bytes are taken.
+pub fn spelt(widths: &[usize], numbers: &[u64]) -> Vec<u8> {
+    assert_eq!(widths.len(), numbers.len());
+    widths.iter().zip(numbers).flat_map(|(width, number)| number.to_be_bytes()[8 - width..].to_vec()).collect()
+}
+
 /// The four bytes of a signed number, as the whole number that they spell.
 pub fn four_bytes(x: i32) -> u64 {
     u64::from(x as u32)
@@ -61,12 +67,7 @@ pub fn read(book: &[u8], at: usize) -> Result<(Command, usize), u64> {
 impl Command {
     pub fn bytes(&self) -> Vec<u8> {
         let widths = widths(self.byte).expect("a command's byte");
-        assert_eq!(widths.len(), self.operands.len());
-        let mut bytes = vec![self.byte];
-        for (width, operand) in widths.iter().zip(&self.operands) {
-            bytes.extend(&operand.to_be_bytes()[8 - width..]);
-        }
-        bytes
+        [vec![self.byte], spelt(widths, &self.operands)].concat()
     }
 
     /// Writes the command from a place on, and answers the place after it.

@@ -4,8 +4,9 @@ use crate::agree::{some, CROWN_GROUP, D, FACTORS, GRAVITIES, HUNDREDTHS, ROOT_GR
 use crate::natural::Natural;
 use crate::random::Random;
 use crate::report::{Report, Tally};
-use crate::{powers, protocol, proved};
+use crate::{cores, powers, protocol, proved};
 use std::cmp::Ordering::{Equal, Greater, Less};
+use std::fmt::Debug;
 
 /// What a tree may lie between its ends, in mg, for the project's gap to keep its limit.
 const WIDEST_TREE: u64 = 54;
@@ -46,6 +47,44 @@ fn root(group: u64, d: u64, more: i128) -> i128 {
     row[0] * (i128::from(powers::root(d)) + more) * (PARTS / 100_000)
 }
 
+/// The exact value of a project, held between whole numbers of parts: 600,000 times PARTS to 11 g.
+pub struct Exact {
+    /// The N of all lines added.
+    pub trees: u64,
+    least: Natural,
+    most: Natural,
+}
+
+impl Exact {
+    pub fn new() -> Exact {
+        Exact { trees: 0, least: Natural::of(0), most: Natural::of(0) }
+    }
+
+    /// Adds a line by its N and its tree. w·10^-5 is not above the power, (w+1)·10^-5 not below; the root's y the same.
+    pub fn add(&mut self, n: u64, [t, d, f, s, c, r]: [u64; 6]) {
+        let line = |more| {
+            let tree = stem(t, d, f, s) + crown(c, d, more) + root(r, d, more);
+            Natural::of(tree as u128).times(&Natural::of(n.into()))
+        };
+        self.trees += n;
+        self.least = self.least.plus(&line(0));
+        self.most = self.most.plus(&line(1));
+    }
+
+    /// What is to hold of the project's low and high.
+    pub fn holds(&self, tally: &mut Tally, operands: impl Debug, low: u64, high: u64) {
+        let mut holds = |condition, what| tally.holds(condition, (&operands, self.trees, low, high, what));
+        holds((low == high) == (self.trees == 0), "equal exactly without trees");
+        holds(high <= low + 3 + self.trees / 1000, "the gap's limit");
+        // The exact value is 11/6000 of the sum, and N counts hundredths.
+        let eleven = Natural::of(11);
+        let whole = Natural::of(600_000).times(&Natural::of(PARTS as u128));
+        let grams = |g: u64| whole.times(&Natural::of(g.into()));
+        holds(grams(low) <= self.least.times(&eleven), "the low is above the exact value");
+        holds(self.most.times(&eleven) <= grams(high), "the high is below the exact value");
+    }
+}
+
 pub fn run(report: &mut Report) {
     the_powers(report);
     the_parts(report);
@@ -70,19 +109,12 @@ fn the_powers(report: &mut Report) {
     // By whole numbers alone, on every core: 862 comparisons of numbers of some 90,000 digits.
     report.check("crown power, every d: w^10000 ≤ 10^25233·d^24767 < (w+1)^10000", |tally| {
         let all: Vec<u64> = powers::CURVED_CROWN.collect();
-        let cores = std::thread::available_parallelism().map_or(1, |n| n.get());
         let settle = |&d: &u64| {
             let w = powers::crown(d);
             let limit = Natural::power(10, 25233).times(&Natural::power(d, 24767));
             (d, w, Natural::power(w, 10000) <= limit, Natural::power(w + 1, 10000) > limit)
         };
-        let settled: Vec<_> = std::thread::scope(|scope| {
-            let shares = all.chunks(all.len().div_ceil(cores));
-            let threads: Vec<_> =
-                shares.map(|share| scope.spawn(move || share.iter().map(settle).collect::<Vec<_>>())).collect();
-            threads.into_iter().flat_map(|thread| thread.join().expect("a share of the diameters")).collect()
-        });
-        for (d, w, not_above, next_above) in settled {
+        for (d, w, not_above, next_above) in cores::each(&all, settle) {
             tally.holds(not_above, (d, w, "is above the power"));
             tally.holds(next_above, (d, w, "is not the greatest"));
         }
@@ -96,7 +128,7 @@ fn the_powers(report: &mut Report) {
 }
 
 /// The low is not above the exact figure, nor the high below it.
-fn ends_hold(tally: &mut Tally, operands: impl std::fmt::Debug, ask: impl Fn(u64) -> u64, exact: i128) {
+fn ends_hold(tally: &mut Tally, operands: impl Debug, ask: impl Fn(u64) -> u64, exact: i128) {
     let [low, high] = [1, 2].map(|which| i128::from(ask(which)));
     tally.holds(ask(0) == 0 && low * PARTS <= exact && exact <= high * PARTS, (operands, low, high));
 }
@@ -186,8 +218,8 @@ fn the_project(report: &mut Report) {
         let mut random = Random::new(21);
         for round in 0..20_000 {
             let lines = random.between(1, 32);
-            let [mut low, mut high, mut trees] = [0; 3];
-            let [mut exact_low, mut exact_high] = [(); 2].map(|()| Natural::of(0));
+            let [mut low, mut high] = [0; 2];
+            let mut exact = Exact::new();
             for _ in 0..lines {
                 let n = match round % 4 {
                     0 => 0,
@@ -200,27 +232,11 @@ fn the_project(report: &mut Report) {
                 tally.same((n, tree), row(0), 0);
                 low += row(1);
                 high += row(2);
-                trees += n;
-                // w·10^-5 is not above the power, (w+1)·10^-5 not below; the root's y the same.
-                let add = |sum: &Natural, more| {
-                    let tree = stem(t, d, f, s) + crown(c, d, more) + root(r, d, more);
-                    sum.plus(&Natural::of(tree as u128).times(&Natural::of(n.into())))
-                };
-                exact_low = add(&exact_low, 0);
-                exact_high = add(&exact_high, 1);
+                exact.add(n, tree);
             }
-            let ask = |which| proved::project([low, high, trees], which);
-            let [refusal, low_g, high_g] = [0, 1, 2].map(ask);
-            let operands = (low, high, trees, low_g, high_g);
-            tally.same(operands, refusal, 0);
-            tally.holds((low_g == high_g) == (trees == 0), (operands, "equal exactly without trees"));
-            tally.holds(high_g <= low_g + 3 + trees / 1000, (operands, "the gap's limit"));
-            // The exact value is 11/6000 of the sum, and n counts hundredths.
-            let eleven = Natural::of(11);
-            let whole = Natural::of(600_000).times(&Natural::of(PARTS as u128));
-            let grams = |g: u64| whole.times(&Natural::of(g.into()));
-            tally.holds(grams(low_g) <= exact_low.times(&eleven), (operands, "the low is above the exact value"));
-            tally.holds(exact_high.times(&eleven) <= grams(high_g), (operands, "the high is below the exact value"));
+            let ask = |which| proved::project([low, high, exact.trees], which);
+            tally.same((low, high, exact.trees), ask(0), 0);
+            exact.holds(tally, (low, high), ask(1), ask(2));
         }
     });
 }

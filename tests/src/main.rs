@@ -3,11 +3,16 @@
 //!
 //! `outside` runs every check. `outside figures` prints the library's crowns and roots for power_table.py.
 mod agree;
+mod author;
 mod book;
+mod books;
+mod cores;
 mod exact;
+mod listing;
 mod natural;
 mod play;
 mod powers;
+mod program;
 mod protocol;
 mod proved;
 mod random;
@@ -16,6 +21,8 @@ mod report;
 mod steps;
 mod streams;
 mod survey;
+mod total;
+mod totals;
 mod worked;
 
 use std::process::ExitCode;
@@ -28,6 +35,8 @@ fn main() -> ExitCode {
             agree::run(&mut report);
             exact::run(&mut report);
             replay::run(&mut report);
+            totals::run(&mut report);
+            listing::run(&mut report);
             if report.finish() {
                 ExitCode::SUCCESS
             } else {

@@ -1,19 +1,15 @@
 //! The program `replay`, which reads, writes and applies commands by the proved library, against the book and the
 //! survey of these tests, line by line.
-use crate::book::{self, four_bytes, CLOSE, END, FACTOR, HEIGHT, MEASURED, OPEN, SPECIES};
+use crate::book;
 use crate::play::Operation::{self, Applying, Reading, Writing};
 use crate::play::{Met, Play};
+use crate::program::{self, Hex};
 use crate::random::Random;
 use crate::report::{Report, Tally};
-use crate::streams;
 use crate::survey::Line;
+use crate::{books, cores, streams};
 use std::fmt::{Debug, Formatter};
-use std::io::Write;
-use std::process::{Command, Stdio};
-use std::sync::atomic::{AtomicUsize, Ordering};
-use std::thread;
-
-const PROGRAM: &str = concat!(env!("CARGO_MANIFEST_DIR"), "/../target/bin/replay");
+use std::iter;
 
 /// How often a run is to meet each answer at least.
 const OFTEN: u64 = 100;
@@ -37,7 +33,8 @@ pub fn run(report: &mut Report) {
     let mut met = Met::new();
     let mut check = |name: &str, streams: Vec<Vec<u8>>| {
         report.check(name, |tally| {
-            for (stream, printed, play) in plays(&streams) {
+            let plays = cores::each(&streams, |stream| (stream, program(stream), Play::whole(stream)));
+            for (stream, printed, play) in plays {
                 compare(tally, stream, &printed, &play);
                 play.met.into_iter().for_each(|(answer, times)| *met.entry(answer).or_default() += times);
             }
@@ -52,33 +49,8 @@ pub fn run(report: &mut Report) {
     answers(report, &met);
 }
 
-/// Plays each stream by the program and here, some streams at a time.
-fn plays(streams: &[Vec<u8>]) -> Vec<(&[u8], String, Play)> {
-    let next = AtomicUsize::new(0);
-    let work = || {
-        let mut done = Vec::new();
-        while let Some((i, stream)) = streams.iter().enumerate().nth(next.fetch_add(1, Ordering::Relaxed)) {
-            done.push((i, (&stream[..], program(stream), Play::whole(stream))));
-        }
-        done
-    };
-    let mut all = thread::scope(|scope| {
-        let workers = thread::available_parallelism().map_or(1, usize::from);
-        let workers: Vec<_> = (0..workers).map(|_| scope.spawn(work)).collect();
-        workers.into_iter().flat_map(|worker| worker.join().expect("a play")).collect::<Vec<_>>()
-    });
-    all.sort_by_key(|&(i, _)| i);
-    all.into_iter().map(|(_, play)| play).collect()
-}
-
-/// What the program prints. It reads all of its input before it prints, so neither waits for the other.
 fn program(stream: &[u8]) -> String {
-    let mut command = Command::new(PROGRAM);
-    let mut child = command.stdin(Stdio::piped()).stdout(Stdio::piped()).spawn().expect("replay, built by tests/run");
-    child.stdin.take().expect("its input").write_all(stream).expect("input that is read");
-    let output = child.wait_with_output().expect("its output");
-    assert!(output.status.success(), "replay: {}", output.status);
-    String::from_utf8(output.stdout).expect("text")
+    String::from_utf8(program::output("replay", iter::once(stream))).expect("text")
 }
 
 /// The commands that led to a line: those of its survey.
@@ -90,8 +62,7 @@ struct Commands<'a> {
 
 impl Debug for Commands<'_> {
     fn fmt(&self, f: &mut Formatter) -> std::fmt::Result {
-        write!(f, "places {} to {}, ", self.from, self.to)?;
-        self.stream[self.from..self.to].iter().try_for_each(|byte| write!(f, "{byte:02x}"))
+        write!(f, "places {} to {}, {:?}", self.from, self.to, Hex(&self.stream[self.from..self.to]))
     }
 }
 
@@ -127,18 +98,7 @@ fn answers(report: &mut Report, met: &Met) {
 /// The listing of document 01: its book and what replay prints of it are stored beside the program.
 fn listing(report: &mut Report) {
     report.check("replay, the listing of document 01", |tally| {
-        let commands = [
-            (SPECIES, vec![3, 7, 5, 56, 58830000, 20123000, four_bytes(-54780), four_bytes(-57397)]),
-            (FACTOR, vec![60, 101]),
-            (OPEN, vec![1, 3, 6, 1]),
-            (MEASURED, vec![60, 4]),
-            (HEIGHT, vec![60, 120]),
-            (CLOSE, vec![]),
-            (OPEN, vec![2, 3, 1, 1]),
-            (CLOSE, vec![]),
-            (END, vec![]),
-        ];
-        let book = commands.map(|(byte, operands)| book::Command { byte, operands }.bytes()).concat();
+        let book = books::listing();
         let play = Play::whole(&book);
         let row = |line: &Line| [line.stratum, line.species, line.row[2], line.row[3], line.row[4]];
         let rows: Vec<_> = play.survey.closed().iter().map(row).collect();

@@ -1,28 +1,14 @@
 //! Streams of commands by chance, the same in every run, none longer than the program `replay` reads.
-use crate::book::{four_bytes, Command, CLOSE, END, FACTOR, HEIGHT, MEASURED, OPEN, SPECIES};
+use crate::author::{Author, CM, FOUR_BYTES};
+use crate::book::{four_bytes, CLOSE, END, FACTOR, HEIGHT, MEASURED, OPEN, SPECIES};
 use crate::protocol;
 use crate::random::Random;
 
 pub const LONGEST: usize = 65_536;
 
-const CM: (u64, u64) = (7, 100);
-const AREA: (u64, u64) = (1, 100_000_000);
-const FOUR_BYTES: (u64, u64) = (0, u32::MAX as u64);
-
-/// The range of each operand, for the commands from 01 on.
-const RANGES: [&[(u64, u64)]; 7] = [
-    &[(0, 15), (0, 7), (0, 5), (1, 100), FOUR_BYTES, FOUR_BYTES, FOUR_BYTES, FOUR_BYTES],
-    &[CM, (100, 200)],
-    &[(0, 255), (0, 15), AREA, AREA],
-    &[CM, (1, 65_535)],
-    &[(10, 100), (1, 600)],
-    &[],
-    &[],
-];
-
 /// Books one after the other.
 pub fn books(seed: u64) -> Vec<u8> {
-    let mut author = Author { random: Random::new(seed), stream: Vec::new() };
+    let mut author = Author::new(seed);
     while author.stream.len() < LONGEST {
         author.any_book();
     }
@@ -35,17 +21,22 @@ pub fn damaged(seed: u64) -> Vec<u8> {
     let mut stream = books(seed);
     let mut random = Random::new(!seed);
     for _ in 0..LONGEST / 80 {
-        let at = random.between(0, stream.len() as u64 - 1) as usize;
-        let byte = random.any() as u8;
-        match random.between(0, 3) {
-            0 => stream[at] = byte,
-            1 => stream[at] ^= 1 << (byte % 8),
-            2 => drop(stream.remove(at)),
-            _ => stream.insert(at, byte),
-        }
+        damage(&mut random, &mut stream);
     }
     stream.truncate(LONGEST);
     stream
+}
+
+/// Changes a byte, takes one out or puts one in.
+pub fn damage(random: &mut Random, stream: &mut Vec<u8>) {
+    let at = random.between(0, stream.len() as u64 - 1) as usize;
+    let byte = random.any() as u8;
+    match random.between(0, 3) {
+        0 => stream[at] = byte,
+        1 => stream[at] ^= 1 << (byte % 8),
+        2 => drop(stream.remove(at)),
+        _ => stream.insert(at, byte),
+    }
 }
 
 /// Bytes by chance: one in so many is the byte of a command, each other one any byte.
@@ -68,44 +59,13 @@ pub fn cut_short(random: &mut Random) -> Vec<Vec<u8>> {
     streams
 }
 
-struct Author {
-    random: Random,
-    stream: Vec<u8>,
-}
-
 impl Author {
-    fn one_in(&mut self, n: u64) -> bool {
-        self.random.between(1, n) == 1
-    }
-
-    fn one_of<T: Copy>(&mut self, all: &[T]) -> T {
-        all[self.random.between(0, all.len() as u64 - 1) as usize]
-    }
-
-    /// Appends a command. Of an operand that is too great for its bytes the low bytes are taken.
-    fn put(&mut self, byte: u8, operands: &[u64]) {
-        self.stream.extend(Command { byte, operands: operands.to_vec() }.bytes());
-    }
-
-    /// The same with some other command before it now and then.
+    /// Appends a command, with some other one before it now and then.
     fn say(&mut self, byte: u8, operands: &[u64]) {
         if self.one_in(12) {
             self.stray();
         }
         self.put(byte, operands);
-    }
-
-    /// Any command, the end seldom, every other one with an operand at an end of its range or one beyond.
-    fn stray(&mut self) {
-        let byte = if self.one_in(40) { END } else { self.random.between(1, 6) as u8 };
-        let ranges = RANGES[usize::from(byte) - 1];
-        let mut operands: Vec<u64> = ranges.iter().map(|&(least, most)| self.random.between(least, most)).collect();
-        if !ranges.is_empty() && self.one_in(2) {
-            let i = self.random.between(0, ranges.len() as u64 - 1) as usize;
-            let (least, most) = ranges[i];
-            operands[i] = self.one_of(&[least.wrapping_sub(1), least, most, most + 1]);
-        }
-        self.put(byte, &operands);
     }
 
     /// Constants of a printed species, or any.
@@ -117,10 +77,10 @@ impl Author {
     }
 
     /// Declares a species, and answers its id.
-    fn species(&mut self, [c1, c2, c3, c4]: [u64; 4]) -> u64 {
-        let [id, crown, root, gravity] =
-            [0, 1, 2, 3].map(|i| RANGES[0][i]).map(|(least, most)| self.random.between(least, most));
-        self.say(SPECIES, &[id, crown, root, gravity, c1, c2, c3, c4]);
+    fn species(&mut self, constants: [u64; 4]) -> u64 {
+        let id = self.random.between(0, 15);
+        let operands = self.species_operands(id, constants);
+        self.say(SPECIES, &operands);
         id
     }
 
@@ -135,15 +95,6 @@ impl Author {
                 let factor = self.random.between(100, 200);
                 self.say(FACTOR, &[cm, factor]);
             }
-        }
-    }
-
-    fn areas(&mut self) -> [u64; 2] {
-        match self.random.between(0, 3) {
-            0 => [6, 1],
-            1 => [self.random.between(1, 20), 1],
-            2 => [self.random.between(1, 100_000), self.random.between(1_000, 100_000)],
-            _ => [(); 2].map(|()| self.random.of_any_size(AREA.1 - 1) + 1),
         }
     }
 

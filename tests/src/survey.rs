@@ -4,7 +4,7 @@ use crate::book::{self, Command};
 use crate::steps;
 use std::collections::BTreeMap;
 
-const ENDED: u64 = 5;
+pub const ENDED: u64 = 5;
 const OUTSIDE_ITS_RANGE: u64 = 6;
 const ALREADY_GIVEN: u64 = 7;
 const UNDECLARED: u64 = 8;

@@ -1,0 +1,73 @@
+//! One who writes commands by chance, the same in every run.
+use crate::book::{Command, END};
+use crate::random::Random;
+
+pub const CM: (u64, u64) = (7, 100);
+const AREA: (u64, u64) = (1, 100_000_000);
+pub const FOUR_BYTES: (u64, u64) = (0, u32::MAX as u64);
+
+/// The range of each operand, for the commands from 01 on.
+const RANGES: [&[(u64, u64)]; 7] = [
+    &[(0, 15), (0, 7), (0, 5), (1, 100), FOUR_BYTES, FOUR_BYTES, FOUR_BYTES, FOUR_BYTES],
+    &[CM, (100, 200)],
+    &[(0, 255), (0, 15), AREA, AREA],
+    &[CM, (1, 65_535)],
+    &[(10, 100), (1, 600)],
+    &[],
+    &[],
+];
+
+pub struct Author {
+    pub random: Random,
+    /// What was written so far.
+    pub stream: Vec<u8>,
+}
+
+impl Author {
+    pub fn new(seed: u64) -> Author {
+        Author { random: Random::new(seed), stream: Vec::new() }
+    }
+
+    pub fn one_in(&mut self, n: u64) -> bool {
+        self.random.between(1, n) == 1
+    }
+
+    pub fn one_of<T: Copy>(&mut self, all: &[T]) -> T {
+        all[self.random.between(0, all.len() as u64 - 1) as usize]
+    }
+
+    /// Appends a command. Of an operand that is too great for its bytes the low bytes are taken.
+    pub fn put(&mut self, byte: u8, operands: &[u64]) {
+        self.stream.extend(Command { byte, operands: operands.to_vec() }.bytes());
+    }
+
+    /// Any command, the end seldom, every other one with an operand at an end of its range or one beyond.
+    pub fn stray(&mut self) {
+        let byte = if self.one_in(40) { END } else { self.random.between(1, 6) as u8 };
+        let ranges = RANGES[usize::from(byte) - 1];
+        let mut operands: Vec<u64> = ranges.iter().map(|&(least, most)| self.random.between(least, most)).collect();
+        if !ranges.is_empty() && self.one_in(2) {
+            let i = self.random.between(0, ranges.len() as u64 - 1) as usize;
+            let (least, most) = ranges[i];
+            operands[i] = self.one_of(&[least.wrapping_sub(1), least, most, most + 1]);
+        }
+        self.put(byte, &operands);
+    }
+
+    /// The operands of a species: groups and gravity by chance.
+    pub fn species_operands(&mut self, id: u64, [c1, c2, c3, c4]: [u64; 4]) -> [u64; 8] {
+        let [crown, root, gravity] =
+            [1, 2, 3].map(|i| RANGES[0][i]).map(|(least, most)| self.random.between(least, most));
+        [id, crown, root, gravity, c1, c2, c3, c4]
+    }
+
+    /// Two areas in their range, with quotients of many sizes.
+    pub fn areas(&mut self) -> [u64; 2] {
+        match self.random.between(0, 3) {
+            0 => [6, 1],
+            1 => [self.random.between(1, 20), 1],
+            2 => [self.random.between(1, 100_000), self.random.between(1_000, 100_000)],
+            _ => [(); 2].map(|()| self.random.of_any_size(AREA.1 - 1) + 1),
+        }
+    }
+}

@@ -1,0 +1,347 @@
+//! Whole books for totalling, the same in every run.
+use crate::author::{Author, CM};
+use crate::book::{self, four_bytes, Command, CLOSE, END, FACTOR, HEIGHT, MEASURED, OPEN, SPECIES};
+use crate::random::Random;
+use crate::{protocol, steps, streams};
+use std::mem;
+use std::ops::RangeInclusive;
+
+/// The book of document 01's listing.
+pub fn listing() -> Vec<u8> {
+    let commands = [
+        (SPECIES, vec![3, 7, 5, 56, 58830000, 20123000, four_bytes(-54780), four_bytes(-57397)]),
+        (FACTOR, vec![60, 101]),
+        (OPEN, vec![1, 3, 6, 1]),
+        (MEASURED, vec![60, 4]),
+        (HEIGHT, vec![60, 120]),
+        (CLOSE, vec![]),
+        (OPEN, vec![2, 3, 1, 1]),
+        (CLOSE, vec![]),
+        (END, vec![]),
+    ];
+    commands.map(|(byte, operands)| Command { byte, operands }.bytes()).concat()
+}
+
+/// An accepted book, most of its lines with estimated trees.
+pub fn accepted(seed: u64) -> Vec<u8> {
+    let mut author = Author::new(seed);
+    let lines = author.one_of(&[1, 1, 2, 3, 5, 8]);
+    let species = author.one_of(&[1, 2, 3, 16]);
+    let least = author.random.between(CM.0, CM.1);
+    let most = CM.1.min(least + author.random.between(0, 12));
+    Writer::new(author, species, least..=most).book(lines, 5)
+}
+
+/// An accepted book with bytes or commands changed, taken out, put in or exchanged.
+pub fn damaged(seed: u64) -> Vec<u8> {
+    let mut book = accepted(seed);
+    let mut author = Author::new(!seed);
+    for _ in 0..author.random.between(1, 3) {
+        if author.one_in(2) {
+            streams::damage(&mut author.random, &mut book);
+        } else {
+            book = author.disorder(&book);
+        }
+    }
+    book
+}
+
+/// Bytes by chance, or commands by chance after a species and a factor.
+pub fn by_chance(seed: u64) -> Vec<u8> {
+    let mut author = Author::new(seed);
+    let length = author.random.between(0, 120);
+    let one_in = author.random.between(1, 4);
+    if author.one_in(3) {
+        return streams::noise(&mut author.random, one_in, length as usize);
+    }
+    let mut writer = Writer::new(author, 1, 7..=7);
+    writer.give(|_| true);
+    for _ in 0..length / 4 {
+        writer.author.stray();
+    }
+    writer.author.stream
+}
+
+/// Books at the limits of document 01 and just over them, and other ends.
+pub fn edges(rounds: u64) -> Vec<Vec<u8>> {
+    let mut books = vec![Vec::new(), vec![END], listing(), of_length(streams::LONGEST - 5)];
+    for seed in 0..rounds {
+        let mut random = Random::new(seed);
+        let n = random.between(1, 65_535);
+        let k = random.between(1, 99);
+        for over in [0, 1] {
+            books.push(any_writer(seed).book(32 + over as usize, random.between(0, 2)));
+            books.push(one_line(seed, [1, 1], 1, 1_000_000 + over));
+            // An estimate of 1,000,000 trees, or of 1/k of a tree more.
+            books.push(one_line(seed, [1_000_000 * k + over, n * k], 2, n));
+            books.push(one_line(seed, [1, 1], over as usize, n));
+        }
+        // No measured tree in any line; a height tree alone; too few trees for an estimate, and just enough.
+        books.push(any_writer(seed).book(random.between(1, 32) as usize, 0));
+        books.push(one_line(seed, [1, 1], 1, 0));
+        books.extend([n, 499_999, 500_000].map(|trees| one_line(seed, [1, 100_000_000], 1, trees)));
+        // The least tariff and the greatest, and one beyond each.
+        books.extend([4_999_999, 5_000_000, 504_999_999, 505_000_000].map(|c1| one_tariff(seed, c1)));
+        books.push(without_factor(seed));
+    }
+    for seed in 0..rounds / 4 {
+        books.extend([1_000, 1_001].map(|height_trees| one_line(seed, [1, 1], height_trees, 7)));
+        // Every species and every factor.
+        books.push(Writer::new(Author::new(seed), 16, CM.0..=CM.1).book(20, 5));
+    }
+    books
+}
+
+/// An accepted book with each byte after its end, and with commands after it.
+pub fn after_the_end(seed: u64) -> Vec<Vec<u8>> {
+    let book = accepted(seed);
+    let after = |bytes: &[u8]| [&book[..], bytes].concat();
+    let mut author = Author::new(!seed);
+    let mut books: Vec<_> = (0..=u8::MAX).map(|byte| after(&[byte])).collect();
+    for _ in 0..100 {
+        author.stray();
+        books.push(after(&mem::take(&mut author.stream)));
+    }
+    books.push(after(&book));
+    books
+}
+
+/// An accepted book cut short at every length.
+pub fn cut_short(seed: u64) -> Vec<Vec<u8>> {
+    let book = accepted(seed);
+    (0..book.len()).map(|length| book[..length].to_vec()).collect()
+}
+
+/// An accepted book of so many bytes: a species, 1 to 4 factors of 3 bytes each, and a line whose measured trees take
+/// 4 bytes each.
+pub fn of_length(length: usize) -> Vec<u8> {
+    let factors = (1..=4).find(|factors| (length - 38 - 3 * factors).is_multiple_of(4)).expect("a remainder of 4");
+    let writer = Writer::new(Author::new(length as u64), 1, 20..=19 + factors as u64);
+    let measured = (length - 38 - 3 * factors) / 4;
+    let book = writer.one_line([6, 1], 1, vec![1; measured]);
+    assert_eq!(book.len(), length);
+    book
+}
+
+/// Counts that add up to so many trees.
+fn counts(author: &mut Author, trees: u64) -> Vec<u64> {
+    let mut counts = Vec::new();
+    let mut left = trees;
+    while left > 0 {
+        let count = left.min(author.random.between(30_000, 65_535));
+        counts.push(count);
+        left -= count;
+    }
+    counts
+}
+
+/// A book of one line with so many height trees and measured trees, whatever document 01 says of them.
+fn one_line(seed: u64, areas: [u64; 2], height_trees: usize, trees: u64) -> Vec<u8> {
+    let mut writer = any_writer(seed);
+    let counts = counts(&mut writer.author, trees);
+    writer.one_line(areas, height_trees, counts)
+}
+
+/// A species whose tariff is the same for every tree: c1 alone is not 0.
+fn one_tariff(seed: u64, c1: i32) -> Vec<u8> {
+    let mut writer = any_writer(seed);
+    writer.species.truncate(1);
+    let id = writer.species[0].0;
+    let operands = writer.author.species_operands(id, [four_bytes(c1), 0, 0, 0]);
+    writer.pending.retain(|(byte, _)| *byte == FACTOR);
+    writer.pending.push((SPECIES, operands.to_vec()));
+    writer.one_line([6, 1], 1, vec![5])
+}
+
+/// A line with trees of a class that has no factor.
+fn without_factor(seed: u64) -> Vec<u8> {
+    let mut writer = any_writer(seed);
+    writer.pending.retain(|(byte, _)| *byte == SPECIES);
+    writer.one_line([1, 1], 1, vec![1])
+}
+
+/// Some species, and trees of one class.
+fn any_writer(seed: u64) -> Writer {
+    let mut author = Author::new(seed);
+    let [species, class] = [(1, 16), CM].map(|(least, most)| author.random.between(least, most));
+    Writer::new(author, species as usize, class..=class)
+}
+
+impl Author {
+    /// Constants of a printed species, or of one whose tariff is the same, 1 to 50, for every tree.
+    fn usable_constants(&mut self) -> [i32; 4] {
+        if self.one_in(3) {
+            return [self.random.signed(5_000_000, 504_999_999), 0, 0, 0];
+        }
+        self.one_of(&protocol::tariff())
+    }
+
+    fn shuffle<T>(&mut self, all: &mut [T]) {
+        for i in 1..all.len() {
+            all.swap(i, self.random.between(0, i as u64) as usize);
+        }
+    }
+
+    /// A book with a command taken out, said twice, exchanged with another or put in.
+    fn disorder(&mut self, book: &[u8]) -> Vec<u8> {
+        let mut commands = Vec::new();
+        let mut at = 0;
+        while let Ok((command, next)) = book::read(book, at) {
+            commands.push(command.bytes());
+            at = next;
+        }
+        let [i, j] = [(); 2].map(|()| self.random.between(0, commands.len().max(1) as u64 - 1) as usize);
+        match self.random.between(0, 3) {
+            _ if commands.is_empty() => {}
+            0 => drop(commands.remove(i)),
+            1 => commands.insert(j, commands[i].clone()),
+            2 => commands.swap(i, j),
+            _ => {
+                self.stray();
+                commands.insert(i, mem::take(&mut self.stream));
+            }
+        }
+        commands.push(book[at..].to_vec());
+        commands.concat()
+    }
+}
+
+/// The byte and the operands of a command.
+type Order = (u8, Vec<u64>);
+
+/// One who writes a book that is accepted, unless told otherwise.
+struct Writer {
+    author: Author,
+    /// The ids and the constants of the species.
+    species: Vec<(u64, [i32; 4])>,
+    /// The classes of measured trees.
+    classes: RangeInclusive<u64>,
+    /// What is not yet declared of these species and of the factors for these classes.
+    pending: Vec<Order>,
+    /// The stratum of the first line.
+    stratum: u64,
+    /// The constants of the line that was opened last.
+    constants: [i32; 4],
+}
+
+impl Writer {
+    fn new(mut author: Author, species: usize, classes: RangeInclusive<u64>) -> Writer {
+        let mut ids: Vec<u64> = (0..16).collect();
+        author.shuffle(&mut ids);
+        let species: Vec<_> = ids[..species].iter().map(|&id| (id, author.usable_constants())).collect();
+        let mut pending = Vec::new();
+        for &(id, constants) in &species {
+            pending.push((SPECIES, author.species_operands(id, constants.map(four_bytes)).to_vec()));
+        }
+        for cm in classes.clone() {
+            pending.push((FACTOR, vec![cm, author.random.between(100, 200)]));
+        }
+        author.shuffle(&mut pending);
+        let stratum = author.random.between(0, 255);
+        Writer { author, species, classes, pending, stratum, constants: [0; 4] }
+    }
+
+    /// So many lines, and the end.
+    fn book(mut self, lines: usize, most_measured: u64) -> Vec<u8> {
+        for i in 0..lines {
+            self.line(i, most_measured);
+        }
+        if self.author.one_in(2) {
+            self.give(|_| true);
+        }
+        self.author.put(END, &[]);
+        self.author.stream
+    }
+
+    /// One line with so many height trees and with these counts of measured trees, and the end.
+    fn one_line(mut self, areas: [u64; 2], height_trees: usize, counts: Vec<u64>) -> Vec<u8> {
+        self.open(0, areas);
+        for _ in 0..height_trees {
+            let operands = self.height_tree();
+            self.author.put(HEIGHT, &operands);
+        }
+        for &count in &counts {
+            let class = self.class();
+            self.author.put(MEASURED, &[class, count]);
+        }
+        self.close(counts.iter().sum());
+        self.author.put(END, &[]);
+        self.author.stream
+    }
+
+    /// A line with its trees in any order. One with measured trees has height trees too.
+    fn line(&mut self, i: usize, most_measured: u64) {
+        let commands = self.author.random.between(0, most_measured);
+        let measured: Vec<_> = (0..commands).map(|_| self.trees()).collect();
+        let n = measured.iter().map(|operands| operands[1]).sum();
+        let areas = self.areas(n);
+        self.open(i, areas);
+        let mut orders: Vec<Order> = measured.iter().map(|operands| (MEASURED, operands.to_vec())).collect();
+        for _ in 0..self.author.random.between(commands.min(1), 3) {
+            orders.push((HEIGHT, self.height_tree().to_vec()));
+        }
+        self.author.shuffle(&mut orders);
+        for (byte, operands) in orders {
+            self.maybe_give();
+            self.author.put(byte, &operands);
+        }
+        self.close(n);
+    }
+
+    /// Declares what is wanted of that which is not yet declared.
+    fn give(&mut self, wanted: impl Fn(&Order) -> bool) {
+        let (wanted, others): (Vec<_>, Vec<_>) = mem::take(&mut self.pending).into_iter().partition(wanted);
+        wanted.iter().for_each(|(byte, operands)| self.author.put(*byte, operands));
+        self.pending = others;
+    }
+
+    fn maybe_give(&mut self) {
+        if self.author.one_in(4) {
+            let next = self.pending.pop();
+            next.iter().for_each(|(byte, operands)| self.author.put(*byte, operands));
+        }
+    }
+
+    /// Opens the line of this number: the species take turns, and the strata follow each other, 0 after 255.
+    fn open(&mut self, i: usize, [p, q]: [u64; 2]) {
+        let (id, constants) = self.species[i % self.species.len()];
+        self.give(|(byte, operands)| *byte == SPECIES && operands[0] == id);
+        let stratum = self.stratum + (i / self.species.len()) as u64;
+        self.author.put(OPEN, &[stratum % 256, id, p, q]);
+        self.constants = constants;
+    }
+
+    /// Closes a line of so many trees, which need the factors.
+    fn close(&mut self, n: u64) {
+        self.give(|(byte, _)| n > 0 && *byte == FACTOR);
+        self.author.put(CLOSE, &[]);
+    }
+
+    fn class(&mut self) -> u64 {
+        self.author.random.between(*self.classes.start(), *self.classes.end())
+    }
+
+    /// The operands of measured trees.
+    fn trees(&mut self) -> [u64; 2] {
+        [self.class(), self.author.random.of_any_size(65_534) + 1]
+    }
+
+    /// The operands of a height tree whose tariff is within its range.
+    fn height_tree(&mut self) -> [u64; 2] {
+        loop {
+            let at = [self.author.random.between(10, 100), self.author.random.between(1, 600)];
+            if steps::single_tariff(self.constants, at).is_ok() {
+                return at;
+            }
+        }
+    }
+
+    /// Areas by which so many trees are not too many.
+    fn areas(&mut self, n: u64) -> [u64; 2] {
+        let [p, q] = self.author.areas();
+        match steps::trees([n, p, q]) {
+            Ok(0..=100_000_000) => [p, q],
+            _ => [1, 1],
+        }
+    }
+}

@@ -1,0 +1,22 @@
+//! Work on every core.
+use std::sync::atomic::{AtomicUsize, Ordering};
+use std::thread;
+
+/// What the work makes of each, in their order.
+pub fn each<'a, T: Sync, R: Send>(all: &'a [T], work: impl Fn(&'a T) -> R + Sync) -> Vec<R> {
+    let next = AtomicUsize::new(0);
+    let share = || {
+        let mut done = Vec::new();
+        while let Some((i, one)) = all.iter().enumerate().nth(next.fetch_add(1, Ordering::Relaxed)) {
+            done.push((i, work(one)));
+        }
+        done
+    };
+    let mut made = thread::scope(|scope| {
+        let workers = thread::available_parallelism().map_or(1, usize::from);
+        let workers: Vec<_> = (0..workers).map(|_| scope.spawn(share)).collect();
+        workers.into_iter().flat_map(|worker| worker.join().expect("a share of the work")).collect::<Vec<_>>()
+    });
+    made.sort_by_key(|&(i, _)| i);
+    made.into_iter().map(|(_, one)| one).collect()
+}
