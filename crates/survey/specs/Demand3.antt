@@ -1,6 +1,6 @@
 -- Demand 3, undivided. "Demand 3 is one statement over all books that the rules below accept and all lent sheets, whatever they held, that do not get 16;
--- it is not one for each line or step." Totalling promises it of every book and every lent sheet. What is below 1/1 of a power, N/100 of a tree and 11/6000 of
--- the sum is in biomass/specs/Exact.antt, in the same words.
+-- it is not one for each line or step." Totalling promises it of every book and every lent sheet. The exact value of one line, and when a fraction is not
+-- above or not below a power, are in biomass/specs/Exact.antt.
 use Prim.Native.Nat.{ℕ, suc, _+_, _/_, _≤_, _<_}
 use mathlib.Core.Path.{_≡_}
 use mathlib.Core.Bool.{cond}

@@ -15,6 +15,7 @@
 --     Playing: play-valid, play-ended         a book is played to a valid survey, which has ended
 --     Playing: place-in-book, end-at-length   or stops at a place within the book, and with 1 at its end
 --     Playing: play-of-list                   and a book given as its commands plays as they do
+--     Sums: sums-small, project-gives         the sums of 32 rows, and eleven times them, fit 64 bits
 --     Demand3: demand3, demanded              demand 3, of every valid survey, and of what every book with every sheet is answered
 --     Demand3: total-den                      and its comparisons with the exact total are comparisons: no denominator is 0
 --     Listing: listing-totalled, listing-sheet, listing-lines     totalling the listing gives what document 01 prints of it

@@ -32,11 +32,11 @@ played p = by-outcome (p .outcome)
     by-outcome (Outcome.Refused why) = stopped (number why) (p .at)
 
 -- one command, read at the place and applied: the survey that it leaves, and the place after it
+abbrev pub takenTo : ℕ → Report Survey → Report (Survey × ℕ)
+takenTo next after = after then λ t. gives (t, next)
+
 unfoldable pub step : List ℕ → ℕ → Survey → Report (Survey × ℕ)
-step book at s =
-    read book at then λ r.
-    apply (r .0) s then λ t.
-    gives (t, r .1)
+step book at s = read book at then λ r. takenTo (r .1) (apply (r .0) s)
 
 -- what the code answers
 abbrev pub stepped : Code.Played → Report (Survey × ℕ)
@@ -90,12 +90,17 @@ noting (Noting.Is l next) = gives (ofTheLine l next)
 noting Noting.NotOfTheLine = gives notOfTheLine
 noting (Noting.Refused why) = refused (number why)
 
+-- with the place after the command
+abbrev pub notedTo : ℕ → Report Line → Report Note
+notedTo next line = line then λ l. gives (ofTheLine l next)
+
+-- measured trees and height trees are the line's own
 abbrev pub noteOf : Command → ℕ → Line → Report Note
 noteOf (Command.Species id species) next l = gives notOfTheLine
 noteOf (Command.Factor cm factor) next l = gives notOfTheLine
 noteOf (Command.Open stratum species p q) next l = gives notOfTheLine
-noteOf (Command.Measured class count) next l = measured class count l then λ m. gives (ofTheLine m next)
-noteOf (Command.Height cm tenths) next l = height cm tenths l then λ m. gives (ofTheLine m next)
+noteOf (Command.Measured class count) next l = notedTo next (measured class count l)
+noteOf (Command.Height cm tenths) next l = notedTo next (height cm tenths l)
 noteOf Command.Close next l = gives notOfTheLine
 noteOf Command.End next l = gives notOfTheLine
 

@@ -8,10 +8,11 @@ use super::refusal::Refusal;
 use super::survey::Outcome;
 use super::survey::Survey;
 ghost use mathlib.Core.Path.{_≡_};
-ghost use Rattle.biomass.specs.Report.{gives, _then_};
+ghost use Rattle.biomass.specs.Report.{refused};
 ghost use Rattle.survey.specs.Refusal.{number};
 ghost use Rattle.survey.specs.Line.{noted};
-ghost use Rattle.survey.specs.Playing.{stopped, played, stepped, step, afterEnd, noting, ofTheLine, note, play};
+ghost use Rattle.survey.specs.Survey.{apply};
+ghost use Rattle.survey.specs.Playing.{stopped, played, stepped, takenTo, step, afterEnd, noting, notedTo, noteOf, note, play};
 
 // How far a book is played: the survey, the place of the next command, and what became of the last one. Where that was
 // refused, the survey and the place are those before it.
@@ -28,37 +29,38 @@ enum Noting {
     Refused(Refusal),
 }
 
-// One command: read at the place, and applied.
-fn step(book: &[u8], at: usize, survey: Survey) -> Played
-    ensures { λ r. ⌜ stepped r ≡ step (now (book .entry)) at survey ⌝ }
-{
-    match read(book, at) {
-        Reading::Is(command, next) => {
-            let applied = survey.apply(command);
-            let survey = applied.survey;
-            let outcome = applied.outcome;
-            Played {
-                survey,
-                at: next,
-                outcome,
-            }
-        }
-        Reading::Refused(why) => Played {
-            survey,
-            at,
-            outcome: Outcome::Refused(why),
-        },
-    }
-}
-
 // A refusal and its place.
 fn stop(survey: Survey, at: usize, why: Refusal) -> Played
-    ensures { λ r. ⌜ played r ≡ stopped (number why) at ⌝ }
+    ensures { λ r. ⌜ (stepped r ≡ refused (number why)) × (played r ≡ stopped (number why) at) ⌝ }
 {
     Played {
         survey,
         at,
         outcome: Outcome::Refused(why),
+    }
+}
+
+// A command applied, with the place after it.
+fn take(survey: Survey, command: Command, next: usize) -> Played
+    ensures { λ r. ⌜ stepped r ≡ takenTo next (apply command survey) ⌝ }
+{
+    let applied = survey.apply(command);
+    let survey = applied.survey;
+    let outcome = applied.outcome;
+    Played {
+        survey,
+        at: next,
+        outcome,
+    }
+}
+
+// One command: read at the place, and applied.
+fn step(book: &[u8], at: usize, survey: Survey) -> Played
+    ensures { λ r. ⌜ stepped r ≡ step (now (book .entry)) at survey ⌝ }
+{
+    match read(book, at) {
+        Reading::Is(command, next) => take(survey, command, next),
+        Reading::Refused(why) => stop(survey, at, why),
     }
 }
 
@@ -76,8 +78,9 @@ fn end(book: &[u8], survey: Survey, at: usize) -> Played
     }
 }
 
+// What became of the line, with the place after the command.
 fn noted_to(answer: Noted, next: usize) -> Noting
-    ensures { λ r. ⌜ noting r ≡ (noted answer then λ l. gives (ofTheLine l next)) ⌝ }
+    ensures { λ r. ⌜ noting r ≡ notedTo next (noted answer) ⌝ }
 {
     match answer {
         Noted::Is(line) => Noting::Is(line, next),
@@ -85,16 +88,23 @@ fn noted_to(answer: Noted, next: usize) -> Noting
     }
 }
 
-// One command, read at the place and noted on the open line where it is measured trees or a height tree.
+// Measured trees and height trees are the line's own.
+fn note_command(line: Line, command: Command, next: usize) -> Noting
+    ensures { λ r. ⌜ noting r ≡ noteOf command next line ⌝ }
+{
+    match command {
+        Command::Measured { class, count } => noted_to(line.measured(class, count), next),
+        Command::Height { cm, tenths } => noted_to(line.height(cm, tenths), next),
+        _ => Noting::NotOfTheLine,
+    }
+}
+
+// One command: read at the place, and noted on the open line.
 fn note(book: &[u8], at: usize, line: Line) -> Noting
     ensures { λ r. ⌜ noting r ≡ note (now (book .entry)) at line ⌝ }
 {
     match read(book, at) {
-        Reading::Is(command, next) => match command {
-            Command::Measured { class, count } => noted_to(line.measured(class, count), next),
-            Command::Height { cm, tenths } => noted_to(line.height(cm, tenths), next),
-            _ => Noting::NotOfTheLine,
-        },
+        Reading::Is(command, next) => note_command(line, command, next),
         Reading::Refused(why) => Noting::Refused(why),
     }
 }

@@ -5,7 +5,6 @@ use super::refusal::of_figure;
 use super::row::Row;
 use super::sheet::lay_rows;
 use super::survey::Outcome;
-use super::survey::Survey;
 use biomass::answer::Carbon;
 use biomass::project::project;
 use biomass::units::BiomassRange;
@@ -14,9 +13,8 @@ use biomass::units::Milligrams;
 ghost use mathlib.Core.Path.{_≡_};
 ghost use Prim.Native.Nat.{_≤_};
 ghost use lib.ListN.{length, take};
-ghost use Rattle.survey.specs.Valid.{Valid};
 ghost use Rattle.survey.specs.Writing.{laidAt};
-ghost use Rattle.survey.specs.Sheet.{rowsOf, sheetBytes};
+ghost use Rattle.survey.specs.Sheet.{sheetBytes};
 ghost use Rattle.survey.specs.Total.{answer, treesOf, sumOf, sums, totalled, totalOf, total, sheetAfter};
 ghost use Rattle.survey.specs.Law.Sums.{RowsSmall};
 ghost use Rattle.survey.specs.Demand3.{Demanded};
@@ -68,19 +66,17 @@ fn add(rows: [Row; 32], closed: usize) -> Sums
     }
 }
 
-// The rows of an ended survey laid, and its totals.
-fn lay_total(sheet: &mut [u8], survey: Survey) -> Totalled
-    requires { ⌜ Valid survey × (800 ≤ length (now sheet)) ⌝ }
-    ensures answer { λ r. ⌜ answer r ≡ totalled (totalOf (rowsOf survey)) ⌝ }
-    ensures laid { λ _. ⌜ now (sheet .exit) ≡ laidAt (now (sheet .entry)) 0 (sheetBytes (rowsOf survey)) ⌝ }
+// So many rows laid, and their totals. The figures come first: where they were declined, the sheet would be as it was.
+fn lay_total(sheet: &mut [u8], rows: [Row; 32], closed: usize) -> Totalled
+    requires { ⌜ (closed ≤ 32) × RowsSmall (take closed rows) × (800 ≤ length (now sheet)) ⌝ }
+    ensures answer { λ r. ⌜ answer r ≡ totalled (totalOf (take closed rows)) ⌝ }
+    ensures laid { λ _. ⌜ now (sheet .exit) ≡ laidAt (now (sheet .entry)) 0 (sheetBytes (take closed rows)) ⌝ }
 {
-    let rows = survey.rows;
-    let closed = survey.closed;
     let sums = add(rows, closed);
     let trees = sums.trees;
     let carbon = match project(sums.biomass, trees) {
         Carbon::Is(carbon) => carbon,
-        // No survey has rows whose sums pass 64 bits.
+        // No survey has rows whose sums, eleven times, pass 64 bits.
         Carbon::Refused(why) => {
             return Totalled::Refused {
                 why: of_figure(why),
@@ -114,7 +110,8 @@ pub fn total(book: &[u8], sheet: &mut [u8]) -> Totalled
         Outcome::Refused(why) => Totalled::Refused { why, at: played.at },
         Outcome::Done => {
             let survey = played.survey;
-            lay_total(sheet, survey)
+            let rows = survey.rows;
+            lay_total(sheet, rows, survey.closed)
         }
     }
 }

@@ -8,7 +8,7 @@ stop-requires : tie.Need-stop-requires
 stop-requires c κs = tt
 
 returns : tie.Need-returns
-returns c = c .stop .ensures ∙ rw (lt-ltb _ _ (c .before .if1 .taken))
+returns c = c .stop .ensures .1 ∙ rw (lt-ltb _ _ (c .before .if1 .taken))
 
 returns-2 : tie.Need-returns-2
 returns-2 c = rw (le-ltb _ _ (c .if1 .left))

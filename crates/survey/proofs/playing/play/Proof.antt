@@ -151,7 +151,7 @@ returns c =
     let known = c .before .before in
     let at = known .before .before .before in
     let is = sym (known .before .before .step .ensures) ∙ not-done _ _ (known .outcome .given .1) in
-    c .stop .ensures ∙ sym (plays-refused _ _ _ _ (at .lines .inv .1) is) ∙ at .lines .inv .2
+    c .stop .ensures .1 ∙ sym (plays-refused _ _ _ _ (at .lines .inv .1) is) ∙ at .lines .inv .2
 
 returns-2 : tie.Need-returns-2 Inv-loop μ-loop Inv-lines μ-lines
 returns-2 c =
@@ -167,7 +167,7 @@ returns-3 c =
     let not-ended = at .before .before .if1 .left in
     let is = sym (known .before .before .note .ensures) ∙ ap noting (known .why .given .1) in
     let refuses = note-refused (book-in at) (at .loop .at) (survey-in at) (at .loop .line) _ not-ended (turn .loop-test .taken) is in
-    c .stop2 .ensures ∙ sym (plays-refused (book-in at) (at .loop .at) (withLine (survey-in at) (at .loop .line)) _ not-ended refuses) ∙ at .loop .inv .2
+    c .stop2 .ensures .1 ∙ sym (plays-refused (book-in at) (at .loop .at) (withLine (survey-in at) (at .loop .line)) _ not-ended refuses) ∙ at .loop .inv .2
 
 pub play-spec : {M : Type 1} → statement M
 play-spec =

@@ -1,34 +1,38 @@
--- `survey::total::lay_total` meets its contract. A valid survey has at most 32 rows, each within the greatest row, so `project` does not decline their sums.
-use Prim.Native.Nat.{ℕ}
+-- `survey::total::lay_total` meets its contract. At most 32 rows, each within the greatest row: `project` does not decline their sums.
+use Prim.Native.Nat.{ℕ, _≤_}
+use native.Mathlib.Omega.{arith}
 use mathlib.Core.Path.{_≡_, _∙_, sym, ap, ap₂}
-use lib.ListN.{length}
+use lib.ListN.{length, take}
+use lib.Seq.{length-take-le}
+use borrow.Author.Needs.{needs}
 use Rattle.biomass.specs.Report.{carbon, gives}
 use Rattle.biomass.specs.Project.{projectOf, project}
 use Rattle.biomass.specs.Law.Gives.{never, figure-is}
-use Rattle.survey.specs.Sheet.{rowsOf}
 use Rattle.survey.specs.Total.{totalled, sumOf, treesOf, sums, totalOf}
 use Rattle.survey.specs.Law.Sums.{project-gives}
-use Rattle.survey.specs.Law.Sheet.{rows-number, at-most-32, sheet-as-long}
-use Rattle.survey.specs.Law.Demand3.{rows-small}
+use Rattle.survey.specs.Law.Sheet.{laid-length}
 use Rattle.biomass.specs.declared.units.CarbonRange.{CarbonRange}
 use Rattle.survey.specs.declared.total.Totals.{Totals}
 use Rattle.survey.proofs.total.lay_total.Statement.{statement}
 use Rattle.survey.proofs.total.lay_total.Tie as tie
 
+-- as many rows as are asked for
+number-is : (p : tie.Start) → length (take (p .args .closed) (p .args .rows)) ≡ p .args .closed
+number-is p = let kept : p .args .closed ≤ length (p .args .rows) = search needs in length-take-le (p .args .closed) (p .args .rows) kept
+
 add-requires : tie.Need-add-requires
-add-requires c κs =
-    let v = c .before .before .pre .0 in
-    (v .lines, rows-small (c .before .before .args .survey) v)
+add-requires c κs = (c .before .pre .0, c .before .pre .1)
 
 -- what `project` answers
 figures-are : (c : tie.After-project) →
-    let s = c .before .before .before .before .args .survey in
-    carbon (c .project .result) ≡ gives (projectOf (sums (rowsOf s)) (sumOf treesOf (rowsOf s)))
+    let a = c .before .before .before .args in
+    let rows = take (a .closed) (a .rows) in
+    carbon (c .project .result) ≡ gives (projectOf (sums rows) (sumOf treesOf rows))
 figures-are c =
-    let start = c .before .before .before .before in
-    let s = start .args .survey in
+    let start = c .before .before .before in
+    let a = start .args in
     let sum = c .before .add .ensures in
-    c .project .ensures ∙ ap₂ project (sum .1) (sum .0) ∙ project-gives (rowsOf s) (rows-small s (start .pre .0)) (at-most-32 s (start .pre .0))
+    c .project .ensures ∙ ap₂ project (sum .1) (sum .0) ∙ project-gives (take (a .closed) (a .rows)) (start .pre .1) (omega (arith, number-is start))
 
 project-requires : tie.Need-project-requires
 project-requires c κs = tt
@@ -47,13 +51,14 @@ returns c = never (ap carbon (sym (c .before .before .why .given .1)) ∙ figure
 
 lay-rows-requires : tie.Need-lay-rows-requires
 lay-rows-requires c κs =
-    let start = c .before .before .before .before .before .before .before .before in
-    (start .pre .0 .lines, start .pre .1)
+    let start = c .before .before .before .before .before .before .before in
+    (start .pre .0, start .pre .2)
 
 same-length : tie.Need-same-length
 same-length c =
-    let start = c .before .before .before .before .before .before .before .before .before .before .before in
-    ap length (c .before .before .lay-rows .ensures) ∙ sheet-as-long (start .args .survey) (start .pre .0) (start .args .sheet .now) (start .pre .1)
+    let start = c .before .before .before .before .before .before .before .before .before .before in
+    let a = start .args in
+    ap length (c .before .before .lay-rows .ensures) ∙ laid-length (a .sheet .now) (take (a .closed) (a .rows)) (omega (arith, number-is start))
 
 totals : {rows n trees N : ℕ} {m c : CarbonRange} → rows ≡ n → trees ≡ N → m ≡ c
     → _≡_ {A = Totals} (record { rows = rows; trees = trees; carbon = m }) (record { rows = n; trees = N; carbon = c })
@@ -64,10 +69,9 @@ unfolding totalOf
 returns-2 c =
     let known = c .before .before .before .before .before in
     let project = known .before .before in
-    let start = project .before .before .before .before in
-    let s = start .args .survey in
+    let start = project .before .before .before in
     let figures = figure-is (ap carbon (sym (known .carbon .given .1)) ∙ figures-are project) in
-    (ap totalled (totals (sym (rows-number s (start .pre .0))) (project .before .add .ensures .0) figures), c .before .before .lay-rows .ensures)
+    (ap totalled (totals (sym (number-is start)) (project .before .add .ensures .0) figures), c .before .before .lay-rows .ensures)
 
 pub lay-total-spec : {M : Type 1} → statement M
 lay-total-spec =

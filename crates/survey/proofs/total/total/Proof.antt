@@ -12,7 +12,7 @@ use Rattle.survey.specs.Total.{Answer, refusedAt, answerOf, total, laidB
 use Rattle.survey.specs.Demand3.{Demanded}
 use Rattle.survey.specs.Law.Playing.{play-valid}
 use Rattle.survey.specs.Law.Sheet.{sheet-as-long}
-use Rattle.survey.specs.Law.Demand3.{demanded}
+use Rattle.survey.specs.Law.Demand3.{rows-small, demanded}
 use Rattle.survey.specs.Valid.{Valid}
 use Rattle.survey.specs.declared.refusal.Refusal.{Refusal}
 use Rattle.survey.specs.declared.survey.Outcome.{Outcome}
@@ -45,7 +45,7 @@ to-a-refusal p why e = rw e
 returns : tie.Need-returns
 returns c =
     let a = c .before .before .before .args in
-    no-room (a .book .now) (a .sheet .now) (c .if1 .taken)
+    no-room (a .book .now) (a .sheet .now) (omega arith)
 
 play-requires : tie.Need-play-requires
 play-requires c κs = tt
@@ -69,29 +69,32 @@ accepted-valid : (c : tie.After-enum-told) → Valid (c .before .before .play .r
 accepted-valid c = play-valid _ _ (sym (accepted c))
 
 lay-total-requires : tie.Need-lay-total-requires
-lay-total-requires c κs = (accepted-valid (c .before .before), omega arith)
+lay-total-requires c κs =
+    let told = c .before .before .before in
+    let v = accepted-valid told in
+    (v .lines, rows-small _ v, omega arith)
 
 returns-2 : tie.Need-returns-2
 returns-2 c =
     let at = c .before .before .before in
     let a = at .before .before .before .before .args in
     let p = at .play .result in
-    room (a .book .now) (a .sheet .now) (at .before .if1 .left) (to-a-refusal p _ (c .before .outcome .given .1) ∙ at .play .ensures) refl refl
+    room (a .book .now) (a .sheet .now) (omega arith) (to-a-refusal p _ (c .before .outcome .given .1) ∙ at .play .ensures) refl refl
 
 same-length : tie.Need-same-length
 same-length c =
-    let told = c .before .before .before .before .before in
+    let told = c .before .before .before .before .before .before in
     let at = told .before .before in
     ap length (c .before .before .lay-total .ensures .1)
-    ∙ sheet-as-long (at .play .result .survey) (accepted-valid told) (at .before .before .before .before .args .sheet .now) (at .before .if1 .left)
+    ∙ sheet-as-long (at .play .result .survey) (accepted-valid told) (at .before .before .before .before .args .sheet .now) (omega arith)
 
 returns-3 : tie.Need-returns-3
 returns-3 c =
-    let told = c .before .before .before .before .before in
+    let told = c .before .before .before .before .before .before in
     let at = told .before .before in
     let a = at .before .before .before .before .args in
     let lays = c .before .before .lay-total .ensures in
-    room (a .book .now) (a .sheet .now) (at .before .if1 .left) (accepted told) (lays .0) (lays .1)
+    room (a .book .now) (a .sheet .now) (omega arith) (accepted told) (lays .0) (lays .1)
 
 pub total-spec : {M : Type 1} → statement M
 total-spec =

@@ -1,0 +1,80 @@
+-- `survey::playing::note_command` meets its contract, by cases on the command: measured trees and a height tree are the line's own, any other is not.
+use Prim.Native.Nat.{ℕ, _≤_}
+use native.Mathlib.Omega.{arith}
+use mathlib.Core.Path.{_≡_, _∙_, refl, sym, ap}
+use mathlib.Core.Logic.{inl, inr}
+use mathlib.Core.List.{[], _∷_}
+use lib.Dec.{lit≤}
+use types.Run.{OneOf}
+use denote.Enum.Declared.{tagOf}
+use Rattle.biomass.specs.Report.{gives}
+use Rattle.survey.specs.Playing.{notOfTheLine, notedTo, noteOf}
+use Rattle.survey.specs.declared.command.Command.{Command}
+use Rattle.survey.specs.declared.line.Line.{Line}
+use Rattle.survey.proofs.command.Command.{the-type}
+use Rattle.survey.proofs.playing.note_command.Statement.{statement}
+use Rattle.survey.proofs.playing.note_command.Tie as tie
+
+-- what the command is known to be, it is noted as
+by-case : {k d : Command} (next : ℕ) (l : Line) → k ≡ d → noteOf d next l ≡ noteOf k next l
+by-case next l e = ap (λ (k : Command). noteOf k next l) (sym e)
+
+-- measured trees and a height tree have the tags 3 and 4
+not-own : (tag : ℕ) → OneOf (0 ∷ 1 ∷ 2 ∷ 5 ∷ 6 ∷ []) tag → 3 ≤ tag → tag ≤ 4 → ⊥
+not-own tag (inl e) least most = omega arith
+not-own tag (inr (inl e)) least most = omega arith
+not-own tag (inr (inr (inl e))) least most = omega arith
+not-own tag (inr (inr (inr (inl e)))) least most = omega arith
+not-own tag (inr (inr (inr (inr e)))) least most = omega arith
+
+others : (k : Command) (next : ℕ) (l : Line) → OneOf (0 ∷ 1 ∷ 2 ∷ 5 ∷ 6 ∷ []) (tagOf the-type k) → gives notOfTheLine ≡ noteOf k next l
+others (Command.Species id species) next l one = refl
+others (Command.Factor cm factor) next l one = refl
+others (Command.Open stratum species p q) next l one = refl
+others (Command.Measured class count) next l one = absurd (not-own 3 one (lit≤ tt) (lit≤ tt))
+others (Command.Height cm tenths) next l one = absurd (not-own 4 one (lit≤ tt) (lit≤ tt))
+others Command.Close next l one = refl
+others Command.End next l one = refl
+
+enum-known-command : tie.Need-enum-known-command
+enum-known-command c = c .match .keys1
+
+measured-requires : tie.Need-measured-requires
+measured-requires c κs = tt
+
+noted-to-requires : tie.Need-noted-to-requires
+noted-to-requires c κs = tt
+
+enum-known-command-2 : tie.Need-enum-known-command-2
+enum-known-command-2 c = c .match .keys2
+
+height-requires : tie.Need-height-requires
+height-requires c κs = tt
+
+noted-to-requires-2 : tie.Need-noted-to-requires-2
+noted-to-requires-2 c κs = tt
+
+returns : tie.Need-returns
+returns c =
+    c .noted-to .ensures ∙ ap (notedTo _) (c .before .measured .ensures) ∙ by-case _ _ (c .before .before .before .command .given .1)
+
+returns-2 : tie.Need-returns-2
+returns-2 c =
+    c .noted-to2 .ensures ∙ ap (notedTo _) (c .before .height .ensures) ∙ by-case _ _ (c .before .before .before .command2 .given .1)
+
+returns-3 : tie.Need-returns-3
+returns-3 c = let a = c .before .args in others (a .command) (a .next) (a .line) (c .match .keys3)
+
+pub note-command-spec : {M : Type 1} → statement M
+note-command-spec =
+    tie.close
+    (tie.spec
+    enum-known-command
+    measured-requires
+    noted-to-requires
+    enum-known-command-2
+    height-requires
+    noted-to-requires-2
+    returns
+    returns-2
+    returns-3)
