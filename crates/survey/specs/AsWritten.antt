@@ -1,5 +1,5 @@
--- Document 01's text with no refusal but those that it names. Applying a command to a valid survey gives just this (Law.AsWritten): the checks that
--- Line and Survey have besides decline only what no book reaches.
+-- Document 01's text with no refusal but those that it names. Applying a command to a valid survey gives just this (Law.AsWritten), and every book
+-- plays to what it plays to by this text (Law.Playing: play-as-written): the checks that Line and Survey have besides decline only what no book reaches.
 use Prim.Native.Nat.{ℕ, _+_, _/_}
 use mathlib.Core.Bool.{Bool, true, false, cond}
 use mathlib.Core.List.{List, [], _∷_}

@@ -7,14 +7,20 @@
 --     Valid: fresh-valid, apply-valid         a fresh survey is valid, and every command keeps a survey so
 --     AsWritten: as-written                   of a valid survey, applying is document 01's text, with no refusal but those that it names
 --     Named: only-named, never-other          the refusals of each command are those that document 01 names; of any survey, besides only 6 and 11
+--     Named: refusal-of-applying              the numbers of applying are 5 to 15
 --     Named: refusal-not-zero, refusal-from-five      and no refusal is taken for acceptance, nor for one of reading or writing
 --     Limit: limit-told                       11 is told only at the limit, of any survey
 --     Once: species-stay, factors-stay, rows-stay     what is given once never changes
 --     Playing: plays-refused, plays-on, plays-end, plays-past-end     how playing goes on from a place; `enough`: how many commands are allowed makes no difference
 --     Playing: note-line, note-refused        an open line that is noted on its own
 --     Playing: play-valid, play-ended         a book is played to a valid survey, which has ended
---     Playing: place-in-book, end-at-length   or stops at a place within the book, and with 1 at its end
+--     Playing: kept-to-the-end                what every command keeps is kept to the end of the book
+--     Playing: end-at-length, one-at-length, place-of-command, place-in-book      a refused book stops at its end with 1 alone, and with any other number at one of its bytes
+--     Playing: play-as-written                a book comes to what it comes to by document 01's text alone
 --     Playing: play-of-list                   and a book given as its commands plays as they do
+--     Rows: rows-fit, rows-read-back          no figure of an accepted book's rows is cut off in the sheet, which gives the rows back
+--     Total: total-as-written, sheet-as-written       the answer of totalling and the sheet are those of document 01's text alone
+--     Total: refusals-of-totalling            and totalling is refused with 1, 2, 3 or 5 to 16
 --     Sums: sums-small, project-gives         the sums of 32 rows, and eleven times them, fit 64 bits
 --     Demand3: demand3, demanded              demand 3, of every valid survey, and of what every book with every sheet is answered
 --     Demand3: total-den                      and its comparisons with the exact total are comparisons: no denominator is 0
@@ -40,6 +46,8 @@ pub mod Named
 pub mod Witness
 -- whole books, played from a fresh survey
 pub mod Playing
+pub mod Rows
+pub mod Total
 pub mod Sums
 pub mod Demand3
 -- document 01's listing, and its wrong programs

@@ -1,19 +1,13 @@
 -- Document 01's listing: the book that its sentence spells, and what it prints of it. Law.Listing shows that totalling this book gives this.
 use Prim.Native.Nat.{ℕ}
-use mathlib.Core.Bool.{true, false}
 use mathlib.Core.List.{List, [], _∷_}
-use lib.ListN.{set, replicate}
 use lib.IntN.{pos, negℤ}
 use Rattle.biomass.specs.Ends.{between}
 use Rattle.survey.specs.Book.{encodeAll}
-use Rattle.survey.specs.Line.{begun, emptyRow, treeWith}
-use Rattle.survey.specs.Survey.{fresh, noLine}
-use Rattle.survey.specs.Demand3.{Estimate}
 use Rattle.survey.specs.declared.command.Species as Declared
 use Rattle.survey.specs.declared.command.Command.{Command}
 use Rattle.survey.specs.declared.command.Command.the-variants.{Species, Factor, Open, Measured, Height, Close, End}
 use Rattle.survey.specs.declared.row.Row.{Row}
-use Rattle.survey.specs.declared.survey.Survey.{Survey}
 use Rattle.survey.specs.declared.total.Totals.{Totals}
 
 -- ---- "Book:"
@@ -65,22 +59,3 @@ row2 = record { stratum = 2; species = 3; tariff = 0; d = 0; trees = 0; biomass 
 -- "project 24.00 92196262 92196263"
 abbrev pub listingTotals : Totals
 listingTotals = record { rows = 2; trees = 2400; carbon = record { low = record { 0 = 92196262 }; high = record { 0 = 92196263 } } }
-
--- ---- what it leaves
-
--- the survey at its end
-unfoldable pub listingSurvey : Survey
-listingSurvey =
-    record {
-      species = set (fresh .species) 3 listed;
-      factors = set (fresh .factors) 60 101;
-      rows = row1 ∷ row2 ∷ replicate 30 (emptyRow noLine);
-      closed = 2;
-      active = false;
-      line = begun 2 3 listed 1 1;
-      ended = true;
-    }
-
--- its lines, as demand 3 takes them. No factor was given at 0 cm
-abbrev pub listingLines : List Estimate
-listingLines = record { N = 2400; tree = treeWith listed 26 600 101 } ∷ record { N = 0; tree = treeWith listed 0 0 0 } ∷ []

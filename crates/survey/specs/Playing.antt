@@ -31,12 +31,17 @@ played p = by-outcome (p .outcome)
     by-outcome Outcome.Done = ended (p .survey)
     by-outcome (Outcome.Refused why) = stopped (number why) (p .at)
 
+-- The rules by which a command is applied to a survey: `apply`, or document 01's bare text (AsWritten), by which each book comes to the same
+-- (Law.Playing: play-as-written)
+abbrev pub Rules : Type 0
+Rules = Command → Survey → Report Survey
+
 -- one command, read at the place and applied: the survey that it leaves, and the place after it
 abbrev pub takenTo : ℕ → Report Survey → Report (Survey × ℕ)
 takenTo next after = after then λ t. gives (t, next)
 
-unfoldable pub step : List ℕ → ℕ → Survey → Report (Survey × ℕ)
-step book at s = read book at then λ r. takenTo (r .1) (apply (r .0) s)
+unfoldable pub stepBy : Rules → List ℕ → ℕ → Survey → Report (Survey × ℕ)
+stepBy rules book at s = read book at then λ r. takenTo (r .1) (rules (r .0) s)
 
 -- what the code answers
 abbrev pub stepped : Code.Played → Report (Survey × ℕ)
@@ -57,19 +62,33 @@ afterEnd book at s = cond (ltb at (length book)) (stopped 5 at) (ended s)
 
 -- The rest of the book from a place on. Each command takes a byte at least, so that with `most` above the number of bytes left it is never used up, and
 -- which such number it is makes no difference (Law.Playing: enough)
-unfoldable pub playUpTo : ℕ → List ℕ → ℕ → Survey → Played
-playUpTo zero book at s = stopped 1 at
-playUpTo (suc most) book at s =
+unfoldable pub playUpToBy : Rules → ℕ → List ℕ → ℕ → Survey → Played
+playUpToBy rules zero book at s = stopped 1 at
+playUpToBy rules (suc most) book at s =
     cond (s .ended) (afterEnd book at s)
-    (met at (step book at s) λ r.
-    playUpTo most book (r .1) (r .0))
+    (met at (stepBy rules book at s) λ r.
+    playUpToBy rules most book (r .1) (r .0))
 
-abbrev pub playFrom : List ℕ → ℕ → Survey → Played
-playFrom book at s = playUpTo (suc (length book)) book at s
+abbrev pub playFromBy : Rules → List ℕ → ℕ → Survey → Played
+playFromBy rules book at s = playUpToBy rules (suc (length book)) book at s
 
 -- "1 has the book's length": reading at the end answers 1, and no command ends past it (Law.Playing: end-at-length)
+abbrev pub playBy : Rules → List ℕ → Played
+playBy rules book = playFromBy rules book 0 fresh
+
+-- ---- a book is played by `apply`
+
+abbrev pub step : List ℕ → ℕ → Survey → Report (Survey × ℕ)
+step = stepBy apply
+
+abbrev pub playUpTo : ℕ → List ℕ → ℕ → Survey → Played
+playUpTo = playUpToBy apply
+
+abbrev pub playFrom : List ℕ → ℕ → Survey → Played
+playFrom = playFromBy apply
+
 unfoldable pub play : List ℕ → Played
-play book = playFrom book 0 fresh
+play = playBy apply
 
 -- Commands as they stand in a book, from a place on: the book that holds them plays so (Law.Playing: play-of-list). A command after 07 is refused
 -- with 5 by applying it, and reading answers 1 where the commands run out before 07

@@ -66,13 +66,21 @@ abbrev pub answerOf : Played → Answer
 answerOf (stopped n at) = refusedAt n at
 answerOf (ended s) = totalled (totalOf (rowsOf s))
 
+-- the answer to a book that was played so, with that sheet
+abbrev pub answerInto : List ℕ → Played → Answer
+answerInto sheet p = cond (short sheet) (refusedAt 16 0) (answerOf p)
+
 unfoldable pub total : List ℕ → List ℕ → Answer
-total book sheet = cond (short sheet) (refusedAt 16 0) (answerOf (play book))
+total book sheet = answerInto sheet (play book)
 
 -- "The sheet keeps every byte. On acceptance .. the rows stand from byte 0 on, and only the rows' bytes change."
 abbrev pub laidBy : List ℕ → Played → List ℕ
 laidBy sheet (stopped n at) = sheet
 laidBy sheet (ended s) = laidAt sheet 0 (sheetBytes (rowsOf s))
 
+-- that sheet after a book that was played so
+abbrev pub laidInto : List ℕ → Played → List ℕ
+laidInto sheet p = cond (short sheet) sheet (laidBy sheet p)
+
 unfoldable pub sheetAfter : List ℕ → List ℕ → List ℕ
-sheetAfter book sheet = cond (short sheet) sheet (laidBy sheet (play book))
+sheetAfter book sheet = laidInto sheet (play book)

@@ -57,6 +57,10 @@ pub unless-same : {A : Type 0} (test : Bool) (n : ℕ) (r q : Report A) → (tes
 unless-same true n r q h = h refl
 unless-same false n r q h = refl
 
+pub then-same : {A B : Type 0} (first : Report A) (f g : A → Report B) → ((a : A) → f a ≡ g a) → first then f ≡ first then g
+then-same (refused n) f g h = refl
+then-same (gives a) f g h = h a
+
 -- and where more is made of the figure of the one
 module _ {A B : Type 0} (f : A → Report B) where
   pub when-then : (test : Bool) (n : ℕ) (r : Report A) (q : Report B) → (test ≡ false → r then f ≡ q) → when test n r then f ≡ when test n q

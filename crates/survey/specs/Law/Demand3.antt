@@ -3,7 +3,7 @@
 use Prim.Native.Nat.{ℕ, zero, suc, _+_, _*_, _/_, _≤_, _<_, zero-le}
 use native.Mathlib.Nat.{mul-pos, zero-add}
 use native.Mathlib.Omega.{arith}
-use mathlib.Core.Path.{_≡_, _∙_, refl, sym, ap, subst}
+use mathlib.Core.Path.{_≡_, _∙_, refl, sym, ap}
 use mathlib.Core.Bool.{Bool, true, false, cond}
 use mathlib.Core.List.{List, [], _∷_, map}
 use lib.ListN.{length, getD, take}
@@ -15,7 +15,6 @@ use Rattle.biomass.specs.Exact.{NotBelow, NotAbove}
 use Rattle.biomass.specs.Project.{projectOf}
 use Rattle.biomass.specs.Law.Signed.{pos-le}
 use Rattle.biomass.specs.Law.Fraction.{≼-refl, ≼-trans, ⊕-mono, ⊗-mono, whole-⊕, share-not-under, share-not-over}
-use Rattle.biomass.specs.Law.Tree.{RowBounds, row-gives, row-bounds}
 use Rattle.biomass.specs.Law.Exact.{row-den, row-not-under, row-not-over}
 use Rattle.biomass.specs.declared.units.Grams.{Grams}
 use Rattle.survey.specs.Line.{emptyRow}
@@ -28,6 +27,7 @@ use Rattle.survey.specs.Demand3.{Estimate, estimate, linesOf, added, Eac
 use Rattle.survey.specs.Law.Sheet.{at-most-32}
 use Rattle.survey.specs.Law.Sums.{RowsSmall, sums-small}
 use Rattle.survey.specs.Law.Playing.{play-valid}
+use Rattle.survey.specs.Law.Rows.{within}
 use Rattle.survey.specs.declared.row.Row.{Row}
 use Rattle.survey.specs.declared.survey.Survey.{Survey}
 
@@ -46,15 +46,6 @@ first-closed s (suc n) (r ∷ l) each = and-rows r (take n l) (each 0 (omega ari
 rows-closed : (s : Survey) → Valid s → Closed s (rowsOf s)
 rows-closed s v = first-closed s (s .closed) (s .rows) (λ i h. v .rows i h .figures)
 
--- a worked row has the bounds that steps 4 to 7 give, and an empty one is 0 throughout
-bounds : {s : Survey} {r : Row} → RowFigures s r → RowBounds (r .trees) (r .biomass)
-bounds {r} (RowFigures.empty e) = subst (RowBounds (r .trees)) (sym (e .biomass)) (omega arith)
-bounds {s} {r} (RowFigures.worked w) = row-bounds (r .trees) (estimate s r .tree) (r .biomass) (w .is)
-
-few-trees : {s : Survey} {r : Row} → RowFigures s r → r .trees ≤ 100000000
-few-trees (RowFigures.empty e) = omega (arith, e .trees)
-few-trees {s} {r} (RowFigures.worked w) = row-gives (r .trees) (estimate s r .tree) (r .biomass) (w .is) .number .most
-
 -- a row with trees is a worked one
 with-trees : {s : Survey} {r : Row} → 0 < r .trees → RowFigures s r → WorkedRow s r
 with-trees some (RowFigures.empty e) = absurd (omega (arith, e .trees))
@@ -62,7 +53,7 @@ with-trees some (RowFigures.worked w) = w
 
 closed-small : {s : Survey} {rows : List Row} → Closed s rows → RowsSmall rows
 closed-small no-row = RowsSmall.none
-closed-small (and-rows r rs f c) = let b = bounds f in RowsSmall.more r rs (few-trees f) (b .ordered) (b .small) (closed-small c)
+closed-small (and-rows r rs f c) = let w = within f in RowsSmall.more r rs (w .trees) (w .biomass .ordered) (w .biomass .small) (closed-small c)
 
 -- the rows of a valid survey are within those of the greatest row
 pub rows-small : (s : Survey) → Valid s → RowsSmall (rowsOf s)
@@ -79,7 +70,7 @@ sums-near : {s : Survey} {rows : List Row} → Closed s rows → SumsNear rows
 unfolding sumOf
 sums-near no-row = omega arith
 sums-near (and-rows r rs f c) =
-    let b = bounds f in
+    let b = within f .biomass in
     let rest = sums-near c in
     record { near = omega arith; high-of-none = λ none. omega (arith, b .high-of-none (omega arith), rest .high-of-none (omega arith)) }
 
@@ -146,7 +137,7 @@ module _ (s : Survey) (g : Fractions) where
   sum-not-under (and-rows r rs f c) (Each.more i l ls h each) =
       let rest = sum-not-under c each in
       none-or-some (λ (x : Fraction). whole (pos (lowOf r + sumOf lowOf rs)) ≼ x) (r .trees) _ _
-      (λ none. rw (bounds f .low-of-none none, zero-add) rest)
+      (λ none. rw (within f .biomass .low-of-none none, zero-add) rest)
       (λ some.
       let one = row-not-under (r .trees) (estimate s r .tree) (r .biomass) (with-trees some f .is) (g .crown i) (g .root i) (h some) in
       rw (← whole-⊕ (pos (lowOf r)) (pos (sumOf lowOf rs))) (⊕-mono one rest))
@@ -159,7 +150,7 @@ module _ (s : Survey) (g : Fractions) where
   sum-not-over (and-rows r rs f c) (Each.more i l ls h each) =
       let rest = sum-not-over c each in
       none-or-some (λ (x : Fraction). x ≼ whole (pos (highOf r + sumOf highOf rs))) (r .trees) _ _
-      (λ none. rw (bounds f .high-of-none none, zero-add) rest)
+      (λ none. rw (within f .biomass .high-of-none none, zero-add) rest)
       (λ some.
       let one = row-not-over (r .trees) (estimate s r .tree) (r .biomass) (with-trees some f .is) (g .crown i) (g .root i) (h some) in
       rw (← whole-⊕ (pos (highOf r)) (pos (sumOf highOf rs))) (⊕-mono one rest))

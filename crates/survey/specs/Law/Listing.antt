@@ -2,8 +2,9 @@
 -- one equation gives the survey at its end (`listing-played`), and the answer, the sheet and the lines are read off it.
 use Prim.Native.Nat.{ℕ, _≤_}
 use mathlib.Core.Path.{_≡_, refl, ap}
-use mathlib.Core.List.{List, _++_}
-use lib.ListN.{length, drop}
+use mathlib.Core.Bool.{true, false}
+use mathlib.Core.List.{List, [], _∷_, _++_}
+use lib.ListN.{length, drop, set, replicate}
 use borrow.Author.Tests.{le-ltb}
 use Rattle.biomass.specs.Whole.{greatest}
 use Rattle.biomass.specs.Mean.{meanOf, mean}
@@ -16,22 +17,43 @@ use Rattle.biomass.specs.Tree.{tree, row}
 use Rattle.survey.specs.Book.{encodeAll}
 use Rattle.survey.specs.Reading.{speciesFrom, factorFrom, openFrom, measuredFrom, heightFrom, commandFrom, read}
 use Rattle.survey.specs.Writing.{laidAt}
-use Rattle.survey.specs.Line.{measured, height, worked, lineRow}
-use Rattle.survey.specs.Survey.{fresh, declare, giveFactor, opened, openLine, measure, giveHeight, kept, close, finish}
-use Rattle.survey.specs.Playing.{ended, step, playUpTo, play}
+use Rattle.survey.specs.Line.{begun, measured, height, emptyRow, treeWith, worked, lineRow}
+use Rattle.survey.specs.Survey.{noLine, fresh, declare, giveFactor, opened, openLine, measure, giveHeight, kept, close, finish}
+use Rattle.survey.specs.Playing.{ended, stepBy, playUpToBy, play}
 use Rattle.survey.specs.Sheet.{rowBytes, sheetBytes}
 use Rattle.survey.specs.Total.{totalled, sumOf, totalOf, total, sheetAfter}
-use Rattle.survey.specs.Demand3.{estimates, linesOf}
-use Rattle.survey.specs.Listing.{listing, listingSurvey, listingTotals, listingLines, row1, row2}
+use Rattle.survey.specs.Demand3.{Estimate, estimates, linesOf}
+use Rattle.survey.specs.Listing.{listed, listing, listingTotals, row1, row2}
+use Rattle.survey.specs.declared.survey.Survey.{Survey}
 
--- the survey at the end of the listing
+-- ---- what the listing leaves
+
+-- the survey at its end
+unfoldable pub listingSurvey : Survey
+listingSurvey =
+    record {
+      species = set (fresh .species) 3 listed;
+      factors = set (fresh .factors) 60 101;
+      rows = row1 ∷ row2 ∷ replicate 30 (emptyRow noLine);
+      closed = 2;
+      active = false;
+      line = begun 2 3 listed 1 1;
+      ended = true;
+    }
+
+-- its lines, as demand 3 takes them. No factor was given at 0 cm
+abbrev pub listingLines : List Estimate
+listingLines = record { N = 2400; tree = treeWith listed 26 600 101 } ∷ record { N = 0; tree = treeWith listed 0 0 0 } ∷ []
+
+-- ---- and that it does
+
 pub listing-played : play listing ≡ ended listingSurvey
 unfolding
     listing encodeAll speciesFrom factorFrom openFrom measuredFrom heightFrom commandFrom read
     fresh declare giveFactor opened openLine measure measured giveHeight height close kept finish
     lineRow greatest meanOf mean trees singleTariff lineTariff
     worked row tree stem stemEnds VL VH crown crownEnds root rootEnds
-    step playUpTo play listingSurvey
+    stepBy playUpToBy play listingSurvey
 listing-played = refl
 
 -- so its totals are those printed, on every sheet that is not too short

@@ -3,7 +3,7 @@
 -- nor for one of reading.
 use Prim.Native.Nat.{ℕ, _≤_, _<_}
 use native.Mathlib.Omega.{arith}
-use mathlib.Core.Path.{_≡_, _∙_, refl, sym}
+use mathlib.Core.Path.{_≡_, _∙_, refl, sym, ap}
 use mathlib.Core.Bool.{Bool, true, false, cond, false≢true}
 use mathlib.Core.List.{List, [], _∷_}
 use lib.Dec.{leb, eqb, lit<}
@@ -85,33 +85,44 @@ never-other c s n e =
     apply-declines NamedOrBesides (λ c n is. or-true (eqb n 6) (or-true (eqb n 11) is)) s
     (close-declines (NamedOrBesides Command.Close) s refl refl refl refl refl refl (λ is-open full. refl)) c n e
 
--- a number that is in a list is not below k where none of the list is
-abbrev allFrom : ℕ → List ℕ → Bool
-allFrom k [] = true
-allFrom k (m ∷ l) = cond (leb k m) (allFrom k l) false
+-- what each of a list passes, a number in the list passes
+abbrev each : (ℕ → Bool) → List ℕ → Bool
+each test [] = true
+each test (m ∷ l) = cond (test m) (each test l) false
 
 cond-true : {X : Type 0} (test b : Bool) → cond test true b ≡ true → (test ≡ true → X) → (b ≡ true → X) → X
 cond-true true b e this other = this refl
 cond-true false b e this other = other e
 
-in-from : (k n : ℕ) (l : List ℕ) → allFrom k l ≡ true → isIn n l ≡ true → k ≤ n
-in-from k n [] all is = absurd (false≢true is)
-in-from k n (m ∷ l) all is =
-    let from = both-true (leb k m) (allFrom k l) all in
-    cond-true (eqb n m) (isIn n l) is (λ same. omega (arith, leb-true k m (from .0), eqb-true n m same)) (in-from k n l (from .1))
+in-each : (test : ℕ → Bool) (n : ℕ) (l : List ℕ) → each test l ≡ true → isIn n l ≡ true → test n ≡ true
+in-each test n [] all is = absurd (false≢true is)
+in-each test n (m ∷ l) all is =
+    let both = both-true (test m) (each test l) all in
+    cond-true (eqb n m) (isIn n l) is (λ same. ap test (eqb-true n m same) ∙ both .0) (in-each test n l (both .1))
 
-named-from-five : (c : Command) → allFrom 5 (6 ∷ 11 ∷ numbersOf c) ≡ true
-named-from-five (Command.Species id species) = refl
-named-from-five (Command.Factor cm factor) = refl
-named-from-five (Command.Open stratum species p q) = refl
-named-from-five (Command.Measured class count) = refl
-named-from-five (Command.Height cm tenths) = refl
-named-from-five Command.Close = refl
-named-from-five Command.End = refl
+-- so a number in a list is in another where each of the list is
+pub in-other : (n : ℕ) (l other : List ℕ) → each (λ m. isIn m other) l ≡ true → isIn n l ≡ true → isIn n other ≡ true
+in-other n l other = in-each (λ m. isIn m other) n l
+
+-- the numbers of applying, whatever the command
+abbrev pub ofApplying : List ℕ
+ofApplying = 5 ∷ 6 ∷ 7 ∷ 8 ∷ 9 ∷ 10 ∷ 11 ∷ 12 ∷ 13 ∷ 14 ∷ 15 ∷ []
+
+named-of-applying : (c : Command) → each (λ m. isIn m ofApplying) (6 ∷ 11 ∷ numbersOf c) ≡ true
+named-of-applying (Command.Species id species) = refl
+named-of-applying (Command.Factor cm factor) = refl
+named-of-applying (Command.Open stratum species p q) = refl
+named-of-applying (Command.Measured class count) = refl
+named-of-applying (Command.Height cm tenths) = refl
+named-of-applying Command.Close = refl
+named-of-applying Command.End = refl
+
+pub refusal-of-applying : (c : Command) (s : Survey) (n : ℕ) → apply c s ≡ refused n → isIn n ofApplying ≡ true
+refusal-of-applying c s n e = in-other n (6 ∷ 11 ∷ numbersOf c) ofApplying (named-of-applying c) (never-other c s n e)
 
 -- 1 to 4 are reading's and writing's own
 pub refusal-from-five : (c : Command) (s : Survey) (n : ℕ) → apply c s ≡ refused n → 5 ≤ n
-refusal-from-five c s n e = in-from 5 n (6 ∷ 11 ∷ numbersOf c) (named-from-five c) (never-other c s n e)
+refusal-from-five c s n e = leb-true 5 n (in-each (leb 5) n ofApplying refl (refusal-of-applying c s n e))
 
 -- 0 stands for acceptance
 pub refusal-not-zero : (c : Command) (s : Survey) (n : ℕ) → apply c s ≡ refused n → n ≡ 0 → ⊥

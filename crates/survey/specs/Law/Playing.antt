@@ -1,14 +1,18 @@
 -- Playing a book: each command that is taken moves on within the book, so that playing comes to an end and stops nowhere but in the book or at its
--- end; and every survey that it comes to is valid, since each command keeps it so (Law.Valid). What the bytes of a list of commands play to is what
--- the commands do, since each is read back as it was written (Law.RoundTrip).
+-- end: with 1 at the end, and before it with another number of reading or one of applying (Law.Named). What every command keeps is kept to the end of
+-- the book; so every survey that a book comes to is valid (Law.Valid), each command does just what document 01's text says (Law.AsWritten), and the
+-- whole book comes to what the text makes of it. What the bytes of a list of commands play to is what the commands do, since each is read back as it
+-- was written (Law.RoundTrip).
 use Prim.Native.Nat.{ℕ, zero, suc, _+_, _≤_, _<_}
+use native.Mathlib.Nat.{lt-of-not-le}
+use native.Mathlib.Decide.{decLe}
 use native.Mathlib.Omega.{arith}
 use mathlib.Core.Path.{_≡_, _∙_, refl, sym, ap, ap₂, subst}
-use mathlib.Core.Bool.{Bool, true, false, cond}
-use mathlib.Core.List.{List, _++_}
+use mathlib.Core.Bool.{Bool, true, false, cond, false≢true}
+use mathlib.Core.List.{List, _∷_, _++_}
 use lib.ListN.{length, length-append}
 use lib.Dec.{leb, ltb, eqb}
-use borrow.Author.Tests.{lt-ltb, le-ltb, ltb-false}
+use borrow.Author.Tests.{lt-ltb, le-ltb, ltb-true, ltb-false}
 use Rattle.biomass.specs.Report.{Report, refused, gives, unless, _then_}
 use Rattle.biomass.specs.Law.Gives.{made, figure-is, number-is}
 use Rattle.biomass.specs.Law.Declines.{Declines, gives-declines, unless-declines, then-declines}
@@ -19,14 +23,16 @@ use Rattle.survey.specs.Reading.{whole, speciesFrom, factorFrom, openFro
 use Rattle.survey.specs.Book.{encodeAll}
 use Rattle.survey.specs.Line.{measured, height}
 use Rattle.survey.specs.Survey.{fresh, withLine, withOpened, declare, giveFactor, openLine, measure, giveHeight, close, finish, apply}
-use Rattle.survey.specs.Playing.{Played, ended, stopped, step, met, afterEnd, playUpTo, playFrom, play, playList, Note, ofTheLine, notOfTheLine, noteOf, note}
+use Rattle.survey.specs.Playing.{Played, ended, stopped, takenTo, stepBy, step, met, afterEnd, playUpToBy, playUpTo, playFrom, playBy, play, playList, Note, ofTheLine, notOfTheLine, noteOf, note}
 use Rattle.survey.specs.Valid.{Valid}
+use Rattle.survey.specs.AsWritten.{asWritten, isIn}
 use Rattle.survey.specs.Law.Bytes.{Stands, stands-first, stands-second, stands-itself}
 use Rattle.survey.specs.Law.RoundTrip.{read-encoded, read-moves}
 use Rattle.survey.specs.Law.Book.{AllFit, none, and-next, one-byte-at-least}
-use Rattle.survey.specs.Law.Checks.{cond-declines}
+use Rattle.survey.specs.Law.Checks.{cond-declines, then-same}
 use Rattle.survey.specs.Law.Valid.{fresh-valid, apply-valid}
-use Rattle.survey.specs.Law.Named.{refusal-from-five}
+use Rattle.survey.specs.Law.AsWritten.{as-written}
+use Rattle.survey.specs.Law.Named.{ofApplying, in-other, refusal-of-applying}
 use Rattle.survey.specs.declared.command.Command.{Command}
 use Rattle.survey.specs.declared.line.Line.{Line}
 use Rattle.survey.specs.declared.survey.Survey.{Survey}
@@ -34,13 +40,13 @@ use Rattle.survey.specs.declared.survey.Survey.{Survey}
 -- ---- one command
 
 -- a command that was read and applied, taken apart
-record Taken (book : List ℕ) (at : ℕ) (s t : Survey) (next : ℕ) : Type 0 where
-  command : Command
-  is-read : read book at ≡ gives (command, next)
-  is-applied : apply command s ≡ gives t
+pub record Taken (book : List ℕ) (at : ℕ) (s t : Survey) (next : ℕ) : Type 0 where
+  pub command : Command
+  pub is-read : read book at ≡ gives (command, next)
+  pub is-applied : apply command s ≡ gives t
 
-taken : (book : List ℕ) (at : ℕ) (s t : Survey) (next : ℕ) → step book at s ≡ gives (t, next) → Taken book at s t next
-unfolding step
+pub taken : (book : List ℕ) (at : ℕ) (s t : Survey) (next : ℕ) → step book at s ≡ gives (t, next) → Taken book at s t next
+unfolding stepBy
 taken book at s t next e =
     let r = made (read book at) _ e in
     let a = made (apply (r .figure .0) s) _ (r .next) in
@@ -51,6 +57,10 @@ taken book at s t next e =
 pub step-moves : (book : List ℕ) (at : ℕ) (s t : Survey) (next : ℕ) → step book at s ≡ gives (t, next) → (at < next) × (next ≤ length book)
 step-moves book at s t next e = let k = taken book at s t next e in read-moves book at (k .command) next (k .is-read)
 
+-- and leaves a valid survey valid
+pub step-valid : (book : List ℕ) (at : ℕ) (s t : Survey) (next : ℕ) → Valid s → step book at s ≡ gives (t, next) → Valid t
+step-valid book at s t next v e = let k = taken book at s t next e in apply-valid (k .command) s t v (k .is-applied)
+
 -- ---- how playing goes on from a place
 
 met-same : {A : Type 0} (at : ℕ) (r : Report A) (f g : A → Played) → ((a : A) → r ≡ gives a → f a ≡ g a) → met at r f ≡ met at r g
@@ -60,7 +70,7 @@ met-same at (gives a) f g h = h a refl
 -- from a place in the book or at its end, any number of commands above that of the bytes left is enough, since each takes a byte at least
 pub enough : (book : List ℕ) (at : ℕ) (s : Survey) (m n : ℕ) → at ≤ length book → length book < at + m → length book < at + n
     → playUpTo m book at s ≡ playUpTo n book at s
-unfolding playUpTo
+unfolding playUpToBy
 enough book at s zero n inside m-enough n-enough = absurd (omega arith)
 enough book at s (suc m) zero inside m-enough n-enough = absurd (omega arith)
 enough book at s (suc m) (suc n) inside m-enough n-enough =
@@ -72,7 +82,7 @@ module _ (book : List ℕ) (at : ℕ) (s : Survey) where
   -- it hangs on whether the book has ended, and on what comes of the next command
   plays-by : {b : Bool} {r : Report (Survey × ℕ)} → s .ended ≡ b → step book at s ≡ r
       → playFrom book at s ≡ cond b (afterEnd book at s) (met at r λ x. playUpTo (length book) book (x .1) (x .0))
-  unfolding playUpTo
+  unfolding playUpToBy
   plays-by =
       ap₂ (λ (b : Bool) (r : Report (Survey × ℕ)). cond b (afterEnd book at s) (met at r λ x. playUpTo (length book) book (x .1) (x .0)))
 
@@ -135,7 +145,7 @@ module _ (s : Survey) (l : Line) (not-ended : s .ended ≡ false) (is-open : s .
   -- where a line is open, a command that is the line's own does to the survey what it does to the line
   note-carried : (book : List ℕ) (at : ℕ) {r : Report Note} → note book at l ≡ r
       → step book at (withLine s l) ≡ r then carried s (step book at (withLine s l))
-  unfolding note step
+  unfolding note stepBy
   note-carried book at e = by-read (read book at) ∙ ap (λ (r : Report Note). r then carried s (step book at (withLine s l))) e
     where
       by-read : (r : Report (Command × ℕ)) → (r then λ x. applied (x .0) (x .1) (withLine s l))
@@ -178,19 +188,40 @@ module _ (such : ℕ → Type 0) (s : List ℕ) (two : such 2) (three : such 3) 
       (cond-declines such (eqb b 7) _ _ (gives-declines such (Command.End, at + 1))
       (λ n e. subst such (number-is e) two))))))))
 
--- no command is refused with 1 once it is read
-step-declines : (book : List ℕ) (at : ℕ) (s : Survey) → Declines (λ n. n ≡ 1 → length book ≤ at) (step book at s)
-unfolding step
-step-declines book at s =
-    let such : ℕ → Type 0 = λ n. n ≡ 1 → length book ≤ at in
-    then-declines such (read book at) _ (read-declines such book (λ e. absurd (omega arith)) (λ e. absurd (omega arith)) at (λ out one. out)) (λ r.
-    then-declines such (apply (r .0) s) _ (λ n e one. absurd (omega (arith, refusal-from-five (r .0) s n e))) (λ t.
+-- before the end a command is refused with another number of reading, or with one of applying
+abbrev pub inTheBook : List ℕ
+inTheBook = 2 ∷ 3 ∷ ofApplying
+
+step-declines : (book : List ℕ) (at : ℕ) (s : Survey) → at < length book → Declines (λ n. isIn n inTheBook ≡ true) (step book at s)
+unfolding stepBy
+step-declines book at s inside =
+    let such : ℕ → Type 0 = λ n. isIn n inTheBook ≡ true in
+    then-declines such (read book at) _ (read-declines such book refl refl at (λ out. absurd (omega arith))) (λ r.
+    then-declines such (apply (r .0) s) _ (λ n e. in-other n ofApplying inTheBook refl (refusal-of-applying (r .0) s n e)) (λ t.
     gives-declines such (t, r .1)))
 
--- the survey is valid and ended; the place is within the book, and that of 1 is its end
-abbrev pub Sound : List ℕ → Played → Type 0
-Sound book (ended s) = Valid s × (s .ended ≡ true)
-Sound book (stopped n at) = (at ≤ length book) × (n ≡ 1 → at ≡ length book)
+-- at the end no command is read
+step-at-end : (book : List ℕ) (at : ℕ) (s : Survey) → length book ≤ at → step book at s ≡ refused 1
+unfolding stepBy read
+step-at-end book at s none-left = rw le-ltb
+
+-- what a book is refused with, and where: 1 at its end, or another number at one of its bytes
+pub data Stop (book : List ℕ) (n at : ℕ) : Type 0 where
+  at-end : n ≡ 1 → at ≡ length book → Stop book n at
+  in-book : isIn n inTheBook ≡ true → at < length book → Stop book n at
+
+pub stop-cases : {X : Type 0} {book : List ℕ} {n at : ℕ} → Stop book n at → (n ≡ 1 → at ≡ length book → X) →
+    (isIn n inTheBook ≡ true → at < length book → X) → X
+stop-cases (at-end one end) ends inside = ends one end
+stop-cases (in-book other before) ends inside = inside other before
+
+-- a command that is refused is one of the two
+step-stops : (book : List ℕ) (at : ℕ) (s : Survey) (n : ℕ) → at ≤ length book → step book at s ≡ refused n → Stop book n at
+step-stops book at s n inside e = by-place (decLe (length book) at)
+  where
+    by-place : Dec (length book ≤ at) → Stop book n at
+    by-place (yes none-left) = at-end (number-is (sym e ∙ step-at-end book at s none-left)) (omega arith)
+    by-place (no some-left) = let before : at < length book = lt-of-not-le some-left in in-book (step-declines book at s before n e) before
 
 -- what holds either way of a test, and whatever comes of a command
 module _ (P : Played → Type 0) where
@@ -203,41 +234,84 @@ module _ (P : Played → Type 0) where
   met-cases at (refused n) f stops goes-on = stops n refl
   met-cases at (gives a) f stops goes-on = goes-on a refl
 
--- from a valid survey on: each command keeps it valid and moves on, and only reading tells 1, at the end
-pub plays-sound : (most : ℕ) (book : List ℕ) (at : ℕ) (s : Survey) → Valid s → at ≤ length book → length book < at + most
-    → Sound book (playUpTo most book at s)
-unfolding playUpTo
-plays-sound zero book at s v inside enough = absurd (omega arith)
-plays-sound (suc most) book at s v inside enough =
-    cond-cases (Sound book) (s .ended) _ _
-    (λ is-ended.
-    cond-cases (Sound book) (ltb at (length book)) _ _ (λ some-left. (inside, λ one. absurd (omega arith))) (λ none-left. (v, is-ended)))
-    (λ not-ended.
-    met-cases (Sound book) at (step book at s) _
-    (λ n e. (inside, λ one. let end = step-declines book at s n e one in omega arith))
-    (λ r e.
-    let k = taken book at s (r .0) (r .1) e in
-    let moves = step-moves book at s (r .0) (r .1) e in
-    plays-sound most book (r .1) (r .0) (apply-valid (k .command) s (r .0) v (k .is-applied)) (moves .1) (omega arith)))
+-- What every command keeps that is read in the book and taken
+module _ (book : List ℕ) (Kept : Survey → Type 0)
+    (keeps : (at : ℕ) (s t : Survey) (next : ℕ) → Kept s → step book at s ≡ gives (t, next) → Kept t) where
+  -- holds of the survey that the book comes to, which has ended; else the book is refused
+  abbrev Comes : Played → Type 0
+  Comes (ended s) = Kept s × (s .ended ≡ true)
+  Comes (stopped n at) = Stop book n at
 
-play-sound : (book : List ℕ) (p : Played) → play book ≡ p → Sound book p
+  plays-kept : (most at : ℕ) (s : Survey) → Kept s → at ≤ length book → length book < at + most → Comes (playUpTo most book at s)
+  unfolding playUpToBy
+  plays-kept zero at s k inside enough = absurd (omega arith)
+  plays-kept (suc most) at s k inside enough =
+      cond-cases Comes (s .ended) _ _
+      (λ is-ended.
+      cond-cases Comes (ltb at (length book)) _ _ (λ some-left. in-book refl (ltb-true at (length book) some-left)) (λ none-left. (k, is-ended)))
+      (λ not-ended.
+      met-cases Comes at (step book at s) _ (λ n e. step-stops book at s n inside e) (λ r e.
+      let moves = step-moves book at s (r .0) (r .1) e in
+      plays-kept most (r .1) (r .0) (keeps at s (r .0) (r .1) k e) (moves .1) (omega arith)))
+
+  play-kept : Kept fresh → (p : Played) → play book ≡ p → Comes p
+  unfolding play
+  play-kept first p e = subst Comes e (plays-kept (suc (length book)) 0 fresh first (omega arith) (omega arith))
+
+  -- is kept to its end
+  pub kept-to-the-end : Kept fresh → (s : Survey) → play book ≡ ended s → Kept s
+  kept-to-the-end first s e = play-kept first (ended s) e .0
+
+module _ (book : List ℕ) where
+  play-sound : (p : Played) → play book ≡ p → Comes book Valid (step-valid book) p
+  play-sound = play-kept book Valid (step-valid book) fresh-valid
+
+  -- every survey that a book is played to is valid, and ended
+  pub play-valid : (s : Survey) → play book ≡ ended s → Valid s
+  play-valid s e = play-sound (ended s) e .0
+
+  pub play-ended : (s : Survey) → play book ≡ ended s → s .ended ≡ true
+  play-ended s e = play-sound (ended s) e .1
+
+  pub play-stops : (n at : ℕ) → play book ≡ stopped n at → Stop book n at
+  play-stops n at e = play-sound (stopped n at) e
+
+  -- a refusal's place is within the book
+  pub place-in-book : (n at : ℕ) → play book ≡ stopped n at → at ≤ length book
+  place-in-book n at e = stop-cases (play-stops n at e) (λ one end. omega arith) (λ other before. omega arith)
+
+  -- "1 has the book's length"
+  pub end-at-length : (at : ℕ) → play book ≡ stopped 1 at → at ≡ length book
+  end-at-length at e = stop-cases (play-stops 1 at e) (λ one end. end) (λ other before. absurd (false≢true other))
+
+  -- and nothing else has it
+  pub one-at-length : (n : ℕ) → play book ≡ stopped n (length book) → n ≡ 1
+  one-at-length n e = stop-cases (play-stops n (length book) e) (λ one end. one) (λ other before. absurd (omega arith))
+
+  -- any other refusal has the place of a byte of the book
+  pub place-of-command : (n at : ℕ) → play book ≡ stopped n at → (n ≡ 1 → ⊥) → at < length book
+  place-of-command n at e not-one = stop-cases (play-stops n at e) (λ one end. absurd (not-one one)) (λ other before. before)
+
+-- ---- a book played by document 01's text alone
+
+-- of a valid survey a command that is read does what the text says
+step-as-written : (book : List ℕ) (at : ℕ) (s : Survey) → Valid s → step book at s ≡ stepBy asWritten book at s
+unfolding stepBy
+step-as-written book at s v = then-same (read book at) _ _ λ r. ap (takenTo (r .1)) (as-written (r .0) s v)
+
+-- and each command that is taken leaves a valid survey to the next
+plays-as-written : (most : ℕ) (book : List ℕ) (at : ℕ) (s : Survey) → Valid s → playUpTo most book at s ≡ playUpToBy asWritten most book at s
+unfolding playUpToBy
+plays-as-written zero book at s v = refl
+plays-as-written (suc most) book at s v =
+    ap (cond (s .ended) (afterEnd book at s)) (
+    met-same at (step book at s) _ _ (λ r e. plays-as-written most book (r .1) (r .0) (step-valid book at s (r .0) (r .1) v e))
+    ∙ ap (λ (r : Report (Survey × ℕ)). met at r λ x. playUpToBy asWritten most book (x .1) (x .0)) (step-as-written book at s v))
+
+-- so each book is played as the text says: to the same survey, or to the same refusal at the same place
+pub play-as-written : (book : List ℕ) → play book ≡ playBy asWritten book
 unfolding play
-play-sound book p e = subst (Sound book) e (plays-sound (suc (length book)) book 0 fresh fresh-valid (omega arith) (omega arith))
-
--- every survey that a book is played to is valid, and ended
-pub play-valid : (book : List ℕ) (s : Survey) → play book ≡ ended s → Valid s
-play-valid book s e = play-sound book (ended s) e .0
-
-pub play-ended : (book : List ℕ) (s : Survey) → play book ≡ ended s → s .ended ≡ true
-play-ended book s e = play-sound book (ended s) e .1
-
--- a refusal's place is within the book
-pub place-in-book : (book : List ℕ) (n at : ℕ) → play book ≡ stopped n at → at ≤ length book
-place-in-book book n at e = play-sound book (stopped n at) e .0
-
--- "1 has the book's length"
-pub end-at-length : (book : List ℕ) (at : ℕ) → play book ≡ stopped 1 at → at ≡ length book
-end-at-length book at e = play-sound book (stopped 1 at) e .1 refl
+play-as-written book = plays-as-written (suc (length book)) book 0 fresh fresh-valid
 
 -- ---- a book given as its commands
 
@@ -255,15 +329,10 @@ ended-refuses (Command.Height cm tenths) s e = when-ended s _ e
 ended-refuses Command.Close s e = when-ended s _ e
 ended-refuses Command.End s e = when-ended s _ e
 
--- at the end no command is read
-step-at-end : (book : List ℕ) (at : ℕ) (s : Survey) → length book ≤ at → step book at s ≡ refused 1
-unfolding step read
-step-at-end book at s none-left = rw le-ltb
-
 -- a command that is known to stand there
 module _ (book : List ℕ) (at : ℕ) (s : Survey) (c : Command) (next : ℕ) (reads : read book at ≡ gives (c, next)) where
   step-applies : {r : Report Survey} → apply c s ≡ r → step book at s ≡ r then λ t. gives (t, next)
-  unfolding step
+  unfolding stepBy
   step-applies e =
       ap (λ (r : Report (Command × ℕ)). r then λ x. applied (x .0) (x .1) s) reads ∙ ap (λ (r : Report Survey). r then λ t. gives (t, next)) e
 

@@ -21,7 +21,7 @@ use Rattle.biomass.specs.Tree.{row}
 use Rattle.biomass.specs.Law.Report.{Inside}
 use Rattle.biomass.specs.Law.Gives.{figure-is, made}
 use Rattle.biomass.specs.Law.Tariff.{single-tariff-range}
-use Rattle.biomass.specs.Law.Tree.{tree-gives, row-gives}
+use Rattle.biomass.specs.Law.Tree.{Operands, tree-gives, row-gives}
 use Rattle.survey.specs.Line.{lineWith, begun, withTrees, withHeight, emptyRow, treeWith, worked, lineRow, factorAt, factorFor, wholeCm}
 use Rattle.survey.specs.Survey.{undeclared, noLine, fresh, speciesAt, withSpecies, withFactors, withRow, declared, isLine, anyLine, opened, leaves, apply, reached}
 use Rattle.survey.specs.Valid.{ValidSpecies, ValidFactor, ValidLine, WorkedRow, RowFigures, ValidRow, Apart, none, more, rowAt, Valid}
@@ -37,7 +37,7 @@ use Rattle.survey.specs.declared.survey.Survey.{Survey}
 -- ---- the fresh survey
 
 -- nothing but a stands in a list of a alone, nor past its end
-always : {A : Type 0} (n i : ℕ) (a : A) → getD (replicate n a) i a ≡ a
+pub always : {A : Type 0} (n i : ℕ) (a : A) → getD (replicate n a) i a ≡ a
 always zero i a = refl
 always (suc n) zero a = refl
 always (suc n) (suc i) a = always n i a
@@ -65,7 +65,7 @@ fresh-valid =
 -- ---- rows and lines stay valid
 
 -- of what stands in a list with one element set: at that place the new element, elsewhere what stood there
-set-cases : {A : Type 0} (P : A → Type 0) (l : List A) (i j : ℕ) (a d : A) → i < length l →
+pub set-cases : {A : Type 0} (P : A → Type 0) (l : List A) (i j : ℕ) (a d : A) → i < length l →
     (j ≡ i → P a) → (j ≢ i → P (getD l j d)) → P (getD (set l i a) j d)
 set-cases P l i j a d fits at-i elsewhere = by-cases (ℕ-discrete j i)
   where
@@ -73,13 +73,14 @@ set-cases P l i j a d fits at-i elsewhere = by-cases (ℕ-discrete j i)
     by-cases (yes e) = subst P (sym (ap (λ (k : ℕ). getD (set l i a) k d) e ∙ getD-set-same l i a d fits)) (at-i e)
     by-cases (no other) = subst P (sym (getD-set-other l i j a d other)) (elsewhere other)
 
--- a worked row has a factor, since its tree was answered
+-- a worked row's tree was answered, so that what it is worked from is in its ranges
+pub worked-operands : (s : Survey) (r : Row) → WorkedRow s r
+    → Operands (treeWith (speciesAt s (r .species)) (r .tariff) (r .d) (factorFor (s .factors) (r .d)))
+worked-operands s r w = let g = row-gives (r .trees) _ (r .biomass) (w .is) in tree-gives _ (g .one) (g .one-is) .operands
+
+-- a factor, too, was given
 has-factor : (s : Survey) (r : Row) → WorkedRow s r → 0 < factorFor (s .factors) (r .d)
-has-factor s r w =
-    let t = treeWith (speciesAt s (r .species)) (r .tariff) (r .d) (factorFor (s .factors) (r .d)) in
-    let g = row-gives (r .trees) t (r .biomass) (w .is) in
-    let factor = tree-gives t (g .one) (g .one-is) .operands .factor in
-    omega arith
+has-factor s r w = omega (arith, worked-operands s r w .factor)
 
 module _ (c : Command) (s t : Survey) (e : apply c s ≡ gives t) where
   figures-stay : (r : Row) → declared (r .species) s ≡ true → RowFigures s r → RowFigures t r
@@ -258,10 +259,10 @@ module _ (s : Survey) (v : Valid s) where
 -- ---- closing
 
 -- the row that a line leaves is its own, and is empty or worked
-record RowOf (s : Survey) (l : Line) (r : Row) : Type 0 where
-  stratum : r .stratum ≡ l .stratum
-  species : r .species ≡ l .id
-  figures : RowFigures s r
+pub record RowOf (s : Survey) (l : Line) (r : Row) : Type 0 where
+  pub stratum : r .stratum ≡ l .stratum
+  pub species : r .species ≡ l .id
+  pub figures : RowFigures s r
 
 worked-row-of : (s : Survey) (l : Line) (r : Row) (T d N : ℕ) → l .species ≡ speciesAt s (l .id) →
     worked l T d (factorFor (s .factors) d) N ≡ gives r → RowOf s l r
@@ -272,7 +273,7 @@ worked-row-of s l r T d N species e =
     let is = subst (λ (x : Species). row N (treeWith x T d f) ≡ gives (biomass .figure)) species (biomass .gave) in
     subst (RowOf s l) (figure-is (biomass .next)) (record { stratum = refl; species = refl; figures = RowFigures.worked (record { is = is }) })
 
-row-of : (s : Survey) (l : Line) (r : Row) → l .species ≡ speciesAt s (l .id) → lineRow (s .factors) l ≡ gives r → RowOf s l r
+pub row-of : (s : Survey) (l : Line) (r : Row) → l .species ≡ speciesAt s (l .id) → lineRow (s .factors) l ≡ gives r → RowOf s l r
 unfolding lineRow
 row-of s l r species e =
     cond-gives (eqb (l .n) 0) (gives (emptyRow l)) _ e

@@ -20,12 +20,12 @@ use Rattle.survey.specs.Reading.{speciesFrom, openFrom, commandFrom, rea
 use Rattle.survey.specs.Writing.{laidAt}
 use Rattle.survey.specs.Line.{lineRow}
 use Rattle.survey.specs.Survey.{fresh, declare, opened, openLine, kept, close, finish}
-use Rattle.survey.specs.Playing.{step, playUpTo, play}
+use Rattle.survey.specs.Playing.{stepBy, playUpToBy, play}
 use Rattle.survey.specs.Sheet.{rowBytes, sheetBytes}
 use Rattle.survey.specs.Total.{Answer, refusedAt, totalled, total, sheetAfter}
 use Rattle.survey.specs.Demand3.{Fractions, NoneAbove, more, none, added, exactSum, exactTotal, Demand3, Demanded, linesOf}
-use Rattle.survey.specs.Listing.{species3, line2, listing, listingTotals, listingLines, row1, row2}
-use Rattle.survey.specs.Law.Listing.{listing-totalled, listing-sheet, listing-lines}
+use Rattle.survey.specs.Listing.{species3, line2, listing, listingTotals, row1, row2}
+use Rattle.survey.specs.Law.Listing.{listingLines, listing-totalled, listing-sheet, listing-lines}
 use Rattle.survey.specs.declared.command.Command.{Command}
 use Rattle.survey.specs.declared.total.Totals.{Totals}
 
@@ -42,7 +42,7 @@ secondLine = encodeAll (species3 ∷ line2 ∷ Command.Close ∷ Command.End ∷
 
 second-sheet : (sheet : List ℕ) → 800 ≤ length sheet → sheetAfter secondLine sheet ≡ rowBytes row2 ++ drop 25 sheet
 unfolding
-    secondLine encodeAll speciesFrom openFrom commandFrom read fresh declare opened openLine lineRow kept close finish step playUpTo play
+    secondLine encodeAll speciesFrom openFrom commandFrom read fresh declare opened openLine lineRow kept close finish stepBy playUpToBy play
     sheetAfter laidAt sheetBytes rowBytes
 second-sheet sheet room = rw (le-ltb (length sheet) 800 room)
 

@@ -2,7 +2,7 @@
 use mathlib.Core.Path.{_∙_, sym, ap}
 use Rattle.biomass.specs.Law.Report.{stops, follows}
 use Rattle.survey.specs.Reading.{reading}
-use Rattle.survey.specs.Playing.{step}
+use Rattle.survey.specs.Playing.{stepBy}
 use Rattle.survey.proofs.playing.step.Statement.{statement}
 use Rattle.survey.proofs.playing.step.Tie as tie
 
@@ -22,13 +22,13 @@ stop-requires : tie.Need-stop-requires
 stop-requires c κs = tt
 
 returns : tie.Need-returns
-unfolding step
+unfolding stepBy
 returns c =
     let known = c .before .before in
     follows _ _ (sym (known .before .before .read .ensures .0) ∙ ap reading (known .command .given .1)) (c .take .ensures)
 
 returns-2 : tie.Need-returns-2
-unfolding step
+unfolding stepBy
 returns-2 c =
     let known = c .before .before in
     c .stop .ensures .0 ∙ stops _ _ (sym (known .before .before .read .ensures .0) ∙ ap reading (known .why .given .1))
