@@ -24,6 +24,8 @@
 --     Sums: sums-small, project-gives         the sums of 32 rows, and eleven times them, fit 64 bits
 --     Demand3: demand3, demanded              demand 3, of every valid survey, and of what every book with every sheet is answered
 --     Demand3: total-den                      and its comparisons with the exact total are comparisons: no denominator is 0
+--     NotVacuous: some-not-above, some-not-below      demand 3 is not empty: whatever the lines, there are fractions not above and not below the powers,
+--     NotVacuous: totals-ordered, low-not-above-high      their totals are in order, and the low of every accepted book is not above its high
 --     Listing: listing-totalled, listing-sheet, listing-lines     totalling the listing gives what document 01 prints of it
 --     WrongPrograms                           document 01's six wrong programs and its low of 0, and that what totalling promises contradicts each
 --     Witness                                 two of them again, at one command, and that what applying promises contradicts them
@@ -50,6 +52,7 @@ pub mod Rows
 pub mod Total
 pub mod Sums
 pub mod Demand3
+pub mod NotVacuous
 -- document 01's listing, and its wrong programs
 pub mod Listing
 pub mod WrongPrograms

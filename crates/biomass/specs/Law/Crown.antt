@@ -1,10 +1,13 @@
 -- Laws of the crown: facts of its table, and its ends' bounds.
 use Prim.Native.Nat.{ℕ, zero, suc, _≤_, _<_, _^_}
 use native.Mathlib.Omega.{arith}
+use mathlib.Core.Path.{refl}
 use lib.Dec.{lit≤, lit<}
-use Rattle.biomass.specs.Crown.{k, a, b, w, crownEnds}
+use lib.IntN.{pos}
+use lib.Signed.{_≤ℤ_}
+use Rattle.biomass.specs.Crown.{crownTable, k, a, b, w, crownEnds}
 use Rattle.biomass.specs.Law.Power.{w-most}
-use Rattle.biomass.specs.Law.Ends.{Bounded, Rising, Coefficient, Group, group, line-rising, part-bounded}
+use Rattle.biomass.specs.Law.Ends.{Bounded, Rising, Coefficient, Group, group, coefficient-not-below, line-rising, part-bounded}
 
 -- the table's greatest k is 438717; each line is above 0 past 500; the highest ends at 1066789552 mg
 crown-group : (g : ℕ) → g ≤ 7 → Group (k g) (a g) (b g) 438717 500 1066789552
@@ -20,6 +23,10 @@ crown-group (suc (suc (suc (suc (suc (suc (suc (suc g)))))))) h = absurd (omega 
 
 pub crown-k : (g : ℕ) → g ≤ 7 → Coefficient (k g) 438717
 crown-k g h = crown-group g h .coefficient
+
+-- none is below 0, also of a group that is not in the table
+pub crown-k-not-below : (g : ℕ) → (pos 0) ≤ℤ (k g)
+crown-k-not-below = coefficient-not-below crownTable refl
 
 pub crown-rising : (g d : ℕ) → g ≤ 7 → 500 < d → d ≤ 1000 → Rising (a g) (b g) d
 crown-rising g d h after d-small = line-rising (crown-group g h .line) d after d-small

@@ -1,15 +1,19 @@
 -- Laws of a part's ends. The crown and the root are alike: a curve up to some diameter, a straight line above it. What is common to both is
 -- stated here, over the coefficients; Law.Crown and Law.Root add the facts of the two tables.
-use Prim.Native.Nat.{ℕ, suc, _+_, _-_, _*_, _/_, _≤_, _<_, _^_}
+use Prim.Native.Nat.{ℕ, zero, suc, _+_, _-_, _*_, _/_, _≤_, _<_, _^_}
 use native.Mathlib.Nat.{le-trans, lt-of-le-of-lt, mul-le-mul, mul-le-mul-left, div-mul-le-self, lt-div-mul-add, le-div-iff-mul-le, div-lt-iff-lt-mul}
 use native.Mathlib.Omega.{arith}
 use mathlib.Core.Bool.{Bool, true, false, cond}
 use mathlib.Core.Path.{_≡_, refl, sym, subst}
+use mathlib.Core.List.{List, [], _∷_}
+use lib.ListN.{getD}
 use lib.Dec.{T, leb, lit≤}
 use lib.IntN.{ℤ, pos, negsuc, negℤ, natAbs, _+ℤ_, _*ℤ_}
+use lib.Signed.{leZ, _≤ℤ_, leZ-yes}
 use borrow.Author.Tests.{leb-true, leb-false}
-use Rattle.biomass.specs.Ends.{Ends, curve, straight}
+use Rattle.biomass.specs.Ends.{Ends, entry, curve, straight}
 use Rattle.biomass.specs.Whole.{_div_}
+use Rattle.biomass.specs.Law.Report.{both-true}
 use Rattle.biomass.specs.Law.Signed.{Diff, parts, add, neg, mul, same}
 
 -- What is known of a part's ends e: both are 0 or above, so that `range e` has the same numbers; the low is not above the high; they are
@@ -33,6 +37,16 @@ pub record Rising (start rise : ℤ) (d : ℕ) : Type 0 where
 pub record Coefficient (k : ℤ) (most : ℕ) : Type 0 where
   pub is-whole : k ≡ pos (natAbs k)
   pub small : natAbs k ≤ most
+
+-- A table whose coefficients, its first column, are none below 0. So a group's is not, in the table or past it
+abbrev pub wholes : List (List ℤ) → Bool
+wholes [] = true
+wholes (row ∷ rows) = cond (leZ (pos 0) (getD row 0 (pos 0))) (wholes rows) false
+
+pub coefficient-not-below : (table : List (List ℤ)) → wholes table ≡ true → (g : ℕ) → (pos 0) ≤ℤ (entry table g 0)
+coefficient-not-below [] e g = leZ-yes tt
+coefficient-not-below (row ∷ rows) e zero = leZ-yes (rw (both-true (leZ (pos 0) (getD row 0 (pos 0))) (wholes rows) e .0) tt)
+coefficient-not-below (row ∷ rows) e (suc g) = coefficient-not-below rows (both-true (leZ (pos 0) (getD row 0 (pos 0))) (wholes rows) e .1) g
 
 -- A straight line that begins below 0, is not below it from the diameter after `from` on, and is at most `top` mg at 1000
 pub record Line (start rise : ℤ) (from top : ℕ) : Type 0 where

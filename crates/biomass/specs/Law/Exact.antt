@@ -1,6 +1,7 @@
 -- The exact value of the crown, the root, a tree and a row lies between the ends that steps 5 to 7 give: "Not under the low" whatever
 -- fractions not below the powers are given, "Not over the high" whatever fractions not above them. Each div goes down and each high adds 1,
 -- so a low is not above and a high not below the exact division (Law.Fraction); sums and products keep that. Law.StemExact has the stem.
+-- And with fractions not above the powers a tree is not above what it is with fractions not below them.
 use Prim.Native.Nat.{ℕ, zero, suc, _+_, _*_, _^_, _≤_, _<_}
 use native.Mathlib.Nat.{mul-le-mul-left, mul-pos}
 use native.Mathlib.Omega.{arith}
@@ -8,6 +9,7 @@ use mathlib.Core.Bool.{cond}
 use mathlib.Core.Path.{_≡_, sym, ap, _∙_, subst}
 use lib.Dec.{leb, lit<, eqb·suc-zero}
 use lib.IntN.{ℤ, pos, natAbs, _+ℤ_, _*ℤ_}
+use lib.Signed.{_≤ℤ_}
 use Rattle.biomass.specs.Whole.{_div_}
 use Rattle.biomass.specs.Fraction.{Fraction, whole, _⊕_, _⊗_, _over_, _≼_}
 use Rattle.biomass.specs.Ends.{Ends, curve, straight}
@@ -19,11 +21,11 @@ use Rattle.biomass.specs.Report.{gives}
 use Rattle.biomass.specs.Tree.{tree, row, rowOf}
 use Rattle.biomass.specs.Exact.{Given, value, NotBelowCrown, NotAboveCrown, NotBelowRoot, NotAboveRoot, exactLine, exactStem, exactCrown, exactRoot, exactTree, exactRow, NotBelow, NotAbove}
 use Rattle.biomass.specs.Law.Signed.{pos-le}
-use Rattle.biomass.specs.Law.Fraction.{≼-trans, ⊕-mono, whole-⊕, floor, ceiling, share-not-under, share-not-over, no-share}
+use Rattle.biomass.specs.Law.Fraction.{≼-refl, ≼-trans, ⊕-mono, ⊗-mono, whole-⊕, floor, ceiling, share-not-under, share-not-over, no-share}
 use Rattle.biomass.specs.Law.Ends.{Bounded, Coefficient, either-side}
-use Rattle.biomass.specs.Law.Power.{crown-power-not-under, crown-power-not-over, root-power-not-under, root-power-not-over}
-use Rattle.biomass.specs.Law.Crown.{crown-k}
-use Rattle.biomass.specs.Law.Root.{root-b}
+use Rattle.biomass.specs.Law.Power.{crown-power-not-under, crown-power-not-over, crown-powers-ordered, root-power-not-under, root-power-not-over, root-powers-ordered}
+use Rattle.biomass.specs.Law.Crown.{crown-k, crown-k-not-below}
+use Rattle.biomass.specs.Law.Root.{root-b, root-b-not-below}
 use Rattle.biomass.specs.Law.StemExact.{stem-not-under, stem-not-over}
 use Rattle.biomass.specs.Law.Tree.{tree-gives, parts-bounded, row-gives}
 use Rattle.biomass.specs.declared.units.BiomassRange.{BiomassRange}
@@ -115,6 +117,17 @@ module _ (g d : ℕ) (power : Given) (in-table : g ≤ 5) where
       part-not-over (Root.curveB g) (Root.lineA g) (Root.lineB g) (root-b g in-table) 1 (lit< tt) power d 300 (Root.y d)
       (λ on-curve. root-power-not-over d power (not-above on-curve))
 
+-- A part is the greater, the greater its power: the coefficient is not below 0, and the straight line uses no power
+part-ordered : (k start rise : ℤ) (q : ℕ) (power power′ : Given) (d limit : ℕ) → (pos 0) ≤ℤ k
+    → (d ≤ limit → power .r * power′ .t ≤ power′ .r * power .t)
+    → cond (leb d limit) (whole k over q ⊗ value power) (exactLine start rise d)
+    ≼ cond (leb d limit) (whole k over q ⊗ value power′) (exactLine start rise d)
+part-ordered k start rise q power power′ d limit not-below h =
+    either-side
+    (λ t. cond t (whole k over q ⊗ value power) (exactLine start rise d) ≼ cond t (whole k over q ⊗ value power′) (exactLine start rise d))
+    d limit (λ on-curve. ⊗-mono (whole k over q) not-below (record { cross = pos-le (omega (arith, h on-curve)) }))
+    (λ on-line. ≼-refl (exactLine start rise d))
+
 -- ---- one tree
 
 -- Three parts added: the ends as `range` has them, which are the same numbers, against the exact values
@@ -155,6 +168,20 @@ module _ (t : AverageTree) (m : BiomassRange) (e : tree t ≡ gives m) (crownPow
       let on-crown = crown-not-over (t .crown) (t .d) crownPower (o .crown .most) (n .on-crown) in
       let on-root = root-not-over (t .root) (t .d) rootPower (o .root .most) (n .on-root) in
       rw (g .is) (sum-not-over (b .on-stem) (b .on-crown) (b .on-root) on-stem on-crown on-root)
+
+-- With powers that are not above it is not above what it is with powers that are not below
+module _ (t : AverageTree) (crownPower rootPower crownPower′ rootPower′ : Given) where
+  pub tree-ordered : NotAbove t crownPower rootPower → NotBelow t crownPower′ rootPower′
+      → exactTree t crownPower rootPower ≼ exactTree t crownPower′ rootPower′
+  unfolding exactCrown exactRoot
+  tree-ordered n n′ =
+      let on-crown =
+      part-ordered (Crown.k (t .crown)) (Crown.a (t .crown)) (Crown.b (t .crown)) 10 crownPower crownPower′ (t .d) 500 (crown-k-not-below (t .crown))
+      (λ on-curve. crown-powers-ordered (t .d) crownPower crownPower′ (n .on-crown on-curve) (n′ .on-crown on-curve)) in
+      let on-root =
+      part-ordered (Root.curveB (t .root)) (Root.lineA (t .root)) (Root.lineB (t .root)) 1 rootPower rootPower′ (t .d) 300 (root-b-not-below (t .root))
+      (λ on-curve. root-powers-ordered (t .d) rootPower rootPower′ (n .on-root on-curve) (n′ .on-root on-curve)) in
+      ⊕-mono (⊕-mono (≼-refl (exactStem (t .tariff) (t .d) (t .factor) (t .gravity))) on-crown) on-root
 
 -- ---- one row
 

@@ -1,11 +1,12 @@
 -- What is known of step 5's w and step 6's y.
 -- Both are roots: w^m ≤ 10^c·d^e < (w + 1)^m, with m, c, e = 10000, 25233, 24767 for the crown and 2, 5, 5 for the root, and c + e is 5·m
 -- in both. So where r/t is not below the power, t^m·d^e ≤ r^m·10^e, and (w·t)^m ≤ (10^5·r)^m follows, hence w·t ≤ 10^5·r; the other
--- end goes the same way. This is shown once, for any m, c and e, so that no such power is computed. Both rise with d.
+-- end goes the same way, and w and w + 1, over 10^5, are themselves such fractions. This is shown once, for any m, c and e, so that no such
+-- power is computed. Both rise with d.
 use mathlib.Core.Path.{_≡_, refl}
 use mathlib.Core.Bool.{true}
 use Prim.Native.Nat.{ℕ, zero, suc, _+_, _*_, _^_, _≤_, _<_}
-use native.Mathlib.Nat.{pow-zero, pow-suc, pow-lt-pow-left, pow-le-pow-left, le-trans, mul-mul-mul-comm, mul-le-mul-left, mul-le-mul-right, mul-suc, mul-zero, not-le-of-lt, lt-of-not-le, le-of-suc-le-suc, le-of-eq}
+use native.Mathlib.Nat.{pow-zero, pow-suc, pow-lt-pow-left, pow-le-pow-left, one-le-pow, le-trans, mul-mul-mul-comm, mul-le-mul-left, mul-le-mul-right, le-of-mul-le-mul-right, mul-suc, mul-zero, not-le-of-lt, lt-of-not-le, le-of-suc-le-suc, le-of-eq}
 use native.Mathlib.Omega.{arith}
 use lib.Dec.{lit<, lit≤}
 use lib.Pow.{pow-add}
@@ -32,28 +33,49 @@ pow-mul a j (suc m) = rw (pow-suc, pow-mul a j m, mul-suc, pow-add)
 pub le-of-pow-le : {a b m : ℕ} → 0 < m → a ^ m ≤ b ^ m → a ≤ b
 le-of-pow-le h le = le-of-suc-le-suc (lt-of-not-le (λ lt. not-le-of-lt (pow-lt-pow-left lt (omega arith)) le))
 
+-- r/t that is not above a power, in tenths of d, and r′/t′ that is not below it are in order
+ordered : (m e d r t r′ t′ : ℕ) → 0 < m → r ^ m * 10 ^ e ≤ t ^ m * d ^ e → t′ ^ m * d ^ e ≤ r′ ^ m * 10 ^ e → r * t′ ≤ r′ * t
+ordered m e d r t r′ t′ positive h k =
+    le-of-pow-le positive (rw (mul-pow r t′ m, mul-pow r′ t m)
+    (le-of-mul-le-mul-right {k = 10 ^ e} (omega (arith, mul-le-mul-right (t′ ^ m) h, mul-le-mul-right (t ^ m) k)) (one-le-pow e 10 (lit< tt))))
+
 -- ---- a root of 10^c·d^e
 
 module _ (m c e : ℕ) (positive : 0 < m) (five : c + e ≡ 5 * m) where
-  -- 10^5·r to the power m, its tens parted into 10^c and 10^e
-  tens : (r : ℕ) → (10 ^ 5 * r) ^ m ≡ 10 ^ c * (r ^ m * 10 ^ e)
-  tens r = rw (mul-pow, pow-mul 10 5 m, ← five, pow-add) (omega arith)
+  -- 10^5 to the power m, its tens parted into 10^c and 10^e
+  tens : (10 ^ 5) ^ m ≡ 10 ^ c * 10 ^ e
+  tens = rw (pow-mul 10 5 m, ← five, pow-add)
+
+  tens-of : (r : ℕ) → (10 ^ 5 * r) ^ m ≡ 10 ^ c * (r ^ m * 10 ^ e)
+  tens-of r = rw (mul-pow, tens) (omega arith)
 
   -- a fraction r/t that is not below the power, in tenths of d, is not under the root in units of 10^-5
   not-under : (d r t : ℕ) → t ^ m * d ^ e ≤ r ^ m * 10 ^ e → wholeRoot m (10 ^ c * d ^ e) * t ≤ 10 ^ 5 * r
   not-under d r t h =
-      le-of-pow-le positive (rw (mul-pow (wholeRoot m (10 ^ c * d ^ e)) t m, tens r)
+      le-of-pow-le positive (rw (mul-pow (wholeRoot m (10 ^ c * d ^ e)) t m, tens-of r)
       (omega (arith, mul-le-mul-right (t ^ m) (root-not-above m (10 ^ c * d ^ e) positive), mul-le-mul-left (10 ^ c) h)))
 
   -- and one that is not above it is not over the root and 1
   not-over : (d r t : ℕ) → r ^ m * 10 ^ e ≤ t ^ m * d ^ e → 10 ^ 5 * r ≤ (wholeRoot m (10 ^ c * d ^ e) + 1) * t
   not-over d r t h =
-      le-of-pow-le positive (rw (mul-pow (wholeRoot m (10 ^ c * d ^ e) + 1) t m, tens r)
+      le-of-pow-le positive (rw (mul-pow (wholeRoot m (10 ^ c * d ^ e) + 1) t m, tens-of r)
       (omega (arith, mul-le-mul-right (t ^ m) (root-below m (10 ^ c * d ^ e) positive), mul-le-mul-left (10 ^ c) h)))
+
+  -- the root itself, in units of 10^-5, is not above the power, and the root and 1 are not below it
+  root-not-over : (d : ℕ) → wholeRoot m (10 ^ c * d ^ e) ^ m * 10 ^ e ≤ (10 ^ 5) ^ m * d ^ e
+  root-not-over d = rw tens (omega (arith, mul-le-mul-right (10 ^ e) (root-not-above m (10 ^ c * d ^ e) positive)))
+
+  next-not-under : (d : ℕ) → (10 ^ 5) ^ m * d ^ e ≤ (wholeRoot m (10 ^ c * d ^ e) + 1) ^ m * 10 ^ e
+  next-not-under d = rw tens (omega (arith, mul-le-mul-right (10 ^ e) (root-below m (10 ^ c * d ^ e) positive)))
 
   -- the root rises with d
   rises : {d d′ : ℕ} → d ≤ d′ → wholeRoot m (10 ^ c * d ^ e) ≤ wholeRoot m (10 ^ c * d′ ^ e)
   rises h = root-mono m positive (mul-le-mul-left (10 ^ c) (pow-le-pow-left h e))
+
+-- ---- fractions in units of 10^-5
+
+abbrev pub units : ℕ → Given
+units n = record { r = n; t = 10 ^ 5; t-at-least-1 = lit≤ tt }
 
 -- ---- w
 
@@ -66,6 +88,19 @@ crown-power-not-under d p h = not-under 10000 25233 24767 (lit< tt) refl d (p .r
 pub crown-power-not-over : (d : ℕ) (p : Given) → NotAboveCrown d p → 10 ^ 5 * p .r ≤ (w d + 1) * p .t
 unfolding w
 crown-power-not-over d p h = not-over 10000 25233 24767 (lit< tt) refl d (p .r) (p .t) (h .le)
+
+-- w units of 10^-5 are not above the crown power, and w + 1 of them are not below it
+pub w-not-above : (d : ℕ) → NotAboveCrown d (units (w d))
+unfolding w
+w-not-above d = record { le = root-not-over 10000 25233 24767 (lit< tt) refl d }
+
+pub next-w-not-below : (d : ℕ) → NotBelowCrown d (units (w d + 1))
+unfolding w
+next-w-not-below d = record { ge = next-not-under 10000 25233 24767 (lit< tt) refl d }
+
+-- a fraction that is not above the crown power is not above one that is not below it
+pub crown-powers-ordered : (d : ℕ) (p q : Given) → NotAboveCrown d p → NotBelowCrown d q → p .r * q .t ≤ q .r * p .t
+crown-powers-ordered d p q h k = ordered 10000 24767 d (p .r) (p .t) (q .r) (q .t) (lit< tt) (h .le) (k .ge)
 
 -- w is what passes the test by rounded powers (Law.Scaled)
 pub w-is : (d x : ℕ) → tested 15 10000 24767 (near 15 0 10 25233) (near 15 1 10 25233) d x ≡ true → w d ≡ x
@@ -91,6 +126,17 @@ root-power-not-under d p h = not-under 2 5 5 (lit< tt) refl d (p .r) (p .t) (h .
 pub root-power-not-over : (d : ℕ) (p : Given) → NotAboveRoot d p → 10 ^ 5 * p .r ≤ (y d + 1) * p .t
 unfolding y
 root-power-not-over d p h = not-over 2 5 5 (lit< tt) refl d (p .r) (p .t) (h .le)
+
+pub root-powers-ordered : (d : ℕ) (p q : Given) → NotAboveRoot d p → NotBelowRoot d q → p .r * q .t ≤ q .r * p .t
+root-powers-ordered d p q h k = ordered 2 5 d (p .r) (p .t) (q .r) (q .t) (lit< tt) (h .le) (k .ge)
+
+pub y-not-above : (d : ℕ) → NotAboveRoot d (units (y d))
+unfolding y
+y-not-above d = record { le = root-not-over 2 5 5 (lit< tt) refl d }
+
+pub next-y-not-below : (d : ℕ) → NotBelowRoot d (units (y d + 1))
+unfolding y
+next-y-not-below d = record { ge = next-not-under 2 5 5 (lit< tt) refl d }
 
 y-rises : {d d′ : ℕ} → d ≤ d′ → y d ≤ y d′
 unfolding y

@@ -4,7 +4,7 @@ use Prim.Native.Nat.{ℕ, zero, suc, _+_, _*_, _/_, _≤_, _<_, zero-le}
 use native.Mathlib.Nat.{mul-pos, zero-add}
 use native.Mathlib.Omega.{arith}
 use mathlib.Core.Path.{_≡_, _∙_, refl, sym, ap}
-use mathlib.Core.Bool.{Bool, true, false, cond}
+use mathlib.Core.Bool.{cond}
 use mathlib.Core.List.{List, [], _∷_, map}
 use lib.ListN.{length, getD, take}
 use lib.Dec.{eqb, lit<, eqb·suc-zero}
@@ -22,11 +22,12 @@ use Rattle.survey.specs.Survey.{noLine}
 use Rattle.survey.specs.Valid.{WorkedRow, RowFigures, Valid}
 use Rattle.survey.specs.Playing.{Played, ended, stopped, play}
 use Rattle.survey.specs.Sheet.{rowsOf}
-use Rattle.survey.specs.Total.{refusedAt, sumOf, treesOf, lowOf, highOf, totalOf, short, answerOf, total}
+use Rattle.survey.specs.Total.{sumOf, treesOf, lowOf, highOf, totalOf, answerOf, total}
 use Rattle.survey.specs.Demand3.{Estimate, estimate, linesOf, added, Each, Fractions, exactSum, exactTotal, Demand3, Demanded}
 use Rattle.survey.specs.Law.Sheet.{at-most-32}
 use Rattle.survey.specs.Law.Sums.{RowsSmall, sums-small}
 use Rattle.survey.specs.Law.Playing.{play-valid}
+use Rattle.survey.specs.Law.Total.{of-answer}
 use Rattle.survey.specs.Law.Rows.{within}
 use Rattle.survey.specs.declared.row.Row.{Row}
 use Rattle.survey.specs.declared.survey.Survey.{Survey}
@@ -197,9 +198,4 @@ played-demanded book (ended s) e = rw e (demand3 s (play-valid book s e))
 
 -- with every sheet, what is answered is as demanded: the survey that an accepted book comes to is valid (Law.Playing)
 pub demanded : (book sheet : List ℕ) → Demanded book (total book sheet)
-unfolding total
-demanded book sheet = by-length (short sheet)
-  where
-    by-length : (too-short : Bool) → Demanded book (cond too-short (refusedAt 16 0) (answerOf (play book)))
-    by-length true = tt
-    by-length false = played-demanded book (play book) refl
+demanded book sheet = of-answer book sheet (Demanded book) tt (played-demanded book)

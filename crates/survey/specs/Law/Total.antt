@@ -19,6 +19,15 @@ pub sheet-as-written : (book sheet : List ℕ) → sheetAfter book sheet ≡ lai
 unfolding sheetAfter
 sheet-as-written book sheet = ap (laidInto sheet) (play-as-written book)
 
+-- what holds of 16, and of whatever the book is played to, holds of the answer
+pub of-answer : (book sheet : List ℕ) (P : Answer → Type 0) → P (refusedAt 16 0) → ((p : Played) → play book ≡ p → P (answerOf p)) → P (total book sheet)
+unfolding total
+of-answer book sheet P of-16 of-played = by-length (short sheet)
+  where
+    by-length : (too-short : Bool) → P (cond too-short (refusedAt 16 0) (answerOf (play book)))
+    by-length true = of-16
+    by-length false = of-played (play book) refl
+
 -- ---- the refusals of totalling
 
 -- the numbers of reading and of applying, and 16. 4 is of writing alone
@@ -34,14 +43,6 @@ played-named book (ended s) e = tt
 played-named book (stopped n at) e =
     stop-cases (play-stops book n at e) (λ one end. ap (λ (m : ℕ). isIn m ofTotalling) one) (λ other before. in-other n inTheBook ofTotalling refl other)
 
-total-named : (book sheet : List ℕ) → Named (total book sheet)
-unfolding total
-total-named book sheet = by-length (short sheet)
-  where
-    by-length : (too-short : Bool) → Named (cond too-short (refusedAt 16 0) (answerOf (play book)))
-    by-length true = refl
-    by-length false = played-named book (play book) refl
-
 -- never with 0, which would stand for acceptance, nor with 4, nor with a number that document 01 does not have
 pub refusals-of-totalling : (book sheet : List ℕ) (n at : ℕ) → total book sheet ≡ refusedAt n at → isIn n ofTotalling ≡ true
-refusals-of-totalling book sheet n at e = subst Named e (total-named book sheet)
+refusals-of-totalling book sheet n at e = subst Named e (of-answer book sheet Named refl (played-named book))
