@@ -20,6 +20,7 @@ pub mod Valid
 pub mod AsWritten
 -- whole books: totalling, and demand 3
 pub mod Playing
+pub mod Noting
 pub mod Sheet
 pub mod Total
 pub mod Demand3

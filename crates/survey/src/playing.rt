@@ -11,8 +11,8 @@ ghost use mathlib.Core.Path.{_≡_};
 ghost use Rattle.biomass.specs.Report.{refused};
 ghost use Rattle.survey.specs.Refusal.{number};
 ghost use Rattle.survey.specs.Line.{noted};
-ghost use Rattle.survey.specs.Survey.{apply};
-ghost use Rattle.survey.specs.Playing.{stopped, played, stepped, takenTo, step, afterEnd, noting, notedTo, noteOf, note, play};
+ghost use Rattle.survey.specs.Playing.{stopped, played, stepped, step, afterEnd, play};
+ghost use Rattle.survey.specs.Noting.{noting, notedTo, note};
 
 // How far a book is played: the survey, the place of the next command, and what became of the last one. Where that was
 // refused, the survey and the place are those before it.
@@ -40,26 +40,21 @@ fn stop(survey: Survey, at: usize, why: Refusal) -> Played
     }
 }
 
-// A command applied, with the place after it.
-fn take(survey: Survey, command: Command, next: usize) -> Played
-    ensures { λ r. ⌜ stepped r ≡ takenTo next (apply command survey) ⌝ }
-{
-    let applied = survey.apply(command);
-    let survey = applied.survey;
-    let outcome = applied.outcome;
-    Played {
-        survey,
-        at: next,
-        outcome,
-    }
-}
-
 // One command: read at the place, and applied.
 fn step(book: &[u8], at: usize, survey: Survey) -> Played
     ensures { λ r. ⌜ stepped r ≡ step (now (book .entry)) at survey ⌝ }
 {
     match read(book, at) {
-        Reading::Is(command, next) => take(survey, command, next),
+        Reading::Is(command, next) => {
+            let applied = survey.apply(command);
+            let survey = applied.survey;
+            let outcome = applied.outcome;
+            Played {
+                survey,
+                at: next,
+                outcome,
+            }
+        }
         Reading::Refused(why) => stop(survey, at, why),
     }
 }
@@ -88,23 +83,16 @@ fn noted_to(answer: Noted, next: usize) -> Noting
     }
 }
 
-// Measured trees and height trees are the line's own.
-fn note_command(line: Line, command: Command, next: usize) -> Noting
-    ensures { λ r. ⌜ noting r ≡ noteOf command next line ⌝ }
-{
-    match command {
-        Command::Measured { class, count } => noted_to(line.measured(class, count), next),
-        Command::Height { cm, tenths } => noted_to(line.height(cm, tenths), next),
-        _ => Noting::NotOfTheLine,
-    }
-}
-
-// One command: read at the place, and noted on the open line.
+// One command: read at the place, and noted on the open line where it is the line's own.
 fn note(book: &[u8], at: usize, line: Line) -> Noting
     ensures { λ r. ⌜ noting r ≡ note (now (book .entry)) at line ⌝ }
 {
     match read(book, at) {
-        Reading::Is(command, next) => note_command(line, command, next),
+        Reading::Is(command, next) => match command {
+            Command::Measured { class, count } => noted_to(line.measured(class, count), next),
+            Command::Height { cm, tenths } => noted_to(line.height(cm, tenths), next),
+            _ => Noting::NotOfTheLine,
+        },
         Reading::Refused(why) => Noting::Refused(why),
     }
 }

@@ -23,7 +23,8 @@ use Rattle.survey.specs.Reading.{whole, speciesFrom, factorFrom, openFro
 use Rattle.survey.specs.Book.{encodeAll}
 use Rattle.survey.specs.Line.{measured, height}
 use Rattle.survey.specs.Survey.{fresh, withLine, withOpened, declare, giveFactor, openLine, measure, giveHeight, close, finish, apply}
-use Rattle.survey.specs.Playing.{Played, ended, stopped, takenTo, stepBy, step, met, afterEnd, playUpToBy, playUpTo, playFrom, playBy, play, playList, Note, ofTheLine, notOfTheLine, noteOf, note}
+use Rattle.survey.specs.Playing.{Played, ended, stopped, takenTo, stepBy, step, met, afterEnd, playUpToBy, playUpTo, playFrom, playBy, play, playList}
+use Rattle.survey.specs.Noting.{Note, ofTheLine, notOfTheLine, noteOf, note}
 use Rattle.survey.specs.Valid.{Valid}
 use Rattle.survey.specs.AsWritten.{asWritten, isIn}
 use Rattle.survey.specs.Law.Bytes.{Stands, stands-first, stands-second, stands-itself}

@@ -9,7 +9,8 @@ use lib.ListN.{length}
 use Rattle.biomass.specs.Report.{refused, gives}
 use Rattle.survey.specs.Refusal.{number}
 use Rattle.survey.specs.Survey.{fresh, withLine}
-use Rattle.survey.specs.Playing.{stepped, step, noting, playFrom, play}
+use Rattle.survey.specs.Playing.{stepped, step, playFrom, play}
+use Rattle.survey.specs.Noting.{noting}
 use Rattle.survey.specs.Law.Playing.{step-moves, plays-refused, plays-on, plays-after-end, note-line, note-refused, note-moves}
 use Rattle.survey.specs.declared.refusal.Refusal.{Refusal}
 use Rattle.survey.specs.declared.survey.Survey.{Survey}

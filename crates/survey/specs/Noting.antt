@@ -1,0 +1,39 @@
+-- What the code does while a line is open: it leaves the survey aside and notes the line's own commands on the line. (A private part of playing; document
+-- 01 does not name it. Law.Playing shows that it comes to the same: note-line, note-refused.)
+use Prim.Native.Nat.{ℕ}
+use mathlib.Core.List.{List}
+use Rattle.biomass.specs.Report.{Report, refused, gives, _then_}
+use Rattle.survey.specs.Refusal.{number}
+use Rattle.survey.specs.Reading.{read}
+use Rattle.survey.specs.Line.{measured, height}
+use Rattle.survey.specs.declared.command.Command.{Command}
+use Rattle.survey.specs.declared.line.Line.{Line}
+use Rattle.survey.specs.declared.playing.Noting.{Noting}
+
+-- the line after a command and the place after it, or a command that is not one of the line's own
+pub data Note : Type 0 where
+  ofTheLine : Line → ℕ → Note
+  notOfTheLine : Note
+
+-- what the code answers
+abbrev pub noting : Noting → Report Note
+noting (Noting.Is l next) = gives (ofTheLine l next)
+noting Noting.NotOfTheLine = gives notOfTheLine
+noting (Noting.Refused why) = refused (number why)
+
+-- with the place after the command
+abbrev pub notedTo : ℕ → Report Line → Report Note
+notedTo next line = line then λ l. gives (ofTheLine l next)
+
+-- measured trees and height trees are the line's own
+abbrev pub noteOf : Command → ℕ → Line → Report Note
+noteOf (Command.Species id species) next l = gives notOfTheLine
+noteOf (Command.Factor cm factor) next l = gives notOfTheLine
+noteOf (Command.Open stratum species p q) next l = gives notOfTheLine
+noteOf (Command.Measured class count) next l = notedTo next (measured class count l)
+noteOf (Command.Height cm tenths) next l = notedTo next (height cm tenths l)
+noteOf Command.Close next l = gives notOfTheLine
+noteOf Command.End next l = gives notOfTheLine
+
+unfoldable pub note : List ℕ → ℕ → Line → Report Note
+note book at l = read book at then λ r. noteOf (r .0) (r .1) l
