@@ -24,7 +24,7 @@ use Rattle.survey.specs.Book.{encodeAll}
 use Rattle.survey.specs.Line.{measured, height}
 use Rattle.survey.specs.Survey.{fresh, withLine, withOpened, declare, giveFactor, openLine, measure, giveHeight, close, finish, apply}
 use Rattle.survey.specs.Playing.{Played, ended, stopped, takenTo, stepBy, step, met, afterEnd, playUpToBy, playUpTo, playFrom, playBy, play, playList}
-use Rattle.survey.specs.Noting.{Note, ofTheLine, notOfTheLine, noteOf, note}
+use Rattle.survey.specs.Noting.{Note, ofTheLine, notOfTheLine, notedTo, noteOf, note}
 use Rattle.survey.specs.Valid.{Valid}
 use Rattle.survey.specs.AsWritten.{asWritten, isIn}
 use Rattle.survey.specs.Law.Bytes.{Stands, stands-first, stands-second, stands-itself}
@@ -116,24 +116,18 @@ abbrev carried : Survey → Report (Survey × ℕ) → Note → Report (Survey �
 carried s other (ofTheLine m next) = gives (withLine s m, next)
 carried s other notOfTheLine = other
 
--- what a command does to a survey, with the place after it
-abbrev applied : Command → ℕ → Survey → Report (Survey × ℕ)
-applied c next s = apply c s then λ t. gives (t, next)
-
 module _ (s : Survey) (l : Line) (not-ended : s .ended ≡ false) (is-open : s .active ≡ true) where
   -- the line's own commands look at nothing else of a survey with an open line
   line-carried : (next : ℕ) (other : Report (Survey × ℕ)) (line : Report Line)
-      → (when (s .ended) 5 (unless (s .active) 10 (line then λ m. gives (withLine s m))) then λ t. gives (t, next))
-      ≡ (line then λ m. gives (ofTheLine m next)) then carried s other
+      → takenTo next (when (s .ended) 5 (unless (s .active) 10 (line then λ m. gives (withLine s m)))) ≡ notedTo next line then carried s other
   line-carried next other line =
-      ap₂ (λ (b o : Bool). when b 5 (unless o 10 (line then λ m. gives (withLine s m))) then λ t. gives (t, next)) not-ended is-open ∙ by-line line
+      ap₂ (λ (b o : Bool). takenTo next (when b 5 (unless o 10 (line then λ m. gives (withLine s m))))) not-ended is-open ∙ by-line line
     where
-      by-line : (line : Report Line) → (line then λ m. gives (withLine s m)) then (λ t. gives (t, next))
-          ≡ (line then λ m. gives (ofTheLine m next)) then carried s other
+      by-line : (line : Report Line) → takenTo next (line then λ m. gives (withLine s m)) ≡ notedTo next line then carried s other
       by-line (refused n) = refl
       by-line (gives m) = refl
 
-  apply-carried : (c : Command) (next : ℕ) → applied c next (withLine s l) ≡ noteOf c next l then carried s (applied c next (withLine s l))
+  apply-carried : (c : Command) (next : ℕ) → takenTo next (apply c (withLine s l)) ≡ noteOf c next l then carried s (takenTo next (apply c (withLine s l)))
   unfolding measure giveHeight
   apply-carried (Command.Species id species) next = refl
   apply-carried (Command.Factor cm factor) next = refl
@@ -149,8 +143,8 @@ module _ (s : Survey) (l : Line) (not-ended : s .ended ≡ false) (is-open : s .
   unfolding note stepBy
   note-carried book at e = by-read (read book at) ∙ ap (λ (r : Report Note). r then carried s (step book at (withLine s l))) e
     where
-      by-read : (r : Report (Command × ℕ)) → (r then λ x. applied (x .0) (x .1) (withLine s l))
-          ≡ (r then λ x. noteOf (x .0) (x .1) l) then carried s (r then λ x. applied (x .0) (x .1) (withLine s l))
+      by-read : (r : Report (Command × ℕ)) → (r then λ x. takenTo (x .1) (apply (x .0) (withLine s l)))
+          ≡ (r then λ x. noteOf (x .0) (x .1) l) then carried s (r then λ x. takenTo (x .1) (apply (x .0) (withLine s l)))
       by-read (refused n) = refl
       by-read (gives (c, next)) = apply-carried c next
 
@@ -332,10 +326,9 @@ ended-refuses Command.End s e = when-ended s _ e
 
 -- a command that is known to stand there
 module _ (book : List ℕ) (at : ℕ) (s : Survey) (c : Command) (next : ℕ) (reads : read book at ≡ gives (c, next)) where
-  step-applies : {r : Report Survey} → apply c s ≡ r → step book at s ≡ r then λ t. gives (t, next)
+  step-applies : {r : Report Survey} → apply c s ≡ r → step book at s ≡ takenTo next r
   unfolding stepBy
-  step-applies e =
-      ap (λ (r : Report (Command × ℕ)). r then λ x. applied (x .0) (x .1) s) reads ∙ ap (λ (r : Report Survey). r then λ t. gives (t, next)) e
+  step-applies e = ap (λ (r : Report (Command × ℕ)). r then λ x. takenTo (x .1) (apply (x .0) s)) reads ∙ ap (takenTo next) e
 
   plays-command : (rest : Survey → Played) → at < length book → ((t : Survey) → playFrom book next t ≡ rest t)
       → playFrom book at s ≡ met at (apply c s) rest
