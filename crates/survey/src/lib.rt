@@ -1,5 +1,5 @@
-// The field book's commands, the survey that they make, and the totals of a whole book. The figures of a line come from the crate `biomass`,
-// of which only the promises are used here.
+// The field book's commands, the survey that they make, and the totals of a whole book. The figures of a line come from
+// the crate `biomass`, of which only the promises are used here.
 mod bytes;
 pub mod command;
 mod encoding;

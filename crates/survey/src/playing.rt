@@ -14,8 +14,8 @@ ghost use Rattle.survey.specs.Line.{noted};
 ghost use Rattle.survey.specs.Playing.{stopped, played, stepped, step, afterEnd, play};
 ghost use Rattle.survey.specs.Noting.{noting, notedTo, note};
 
-// How far a book is played: the survey, the place of the next command, and what became of the last one. Where that was
-// refused, the survey and the place are those before it.
+// How far a book is played: the survey, the place after the last command, and what became of that command. Where a book
+// is stopped, the place is that of the refused command; of a refused step only the refusal is looked at.
 pub(crate) struct Played {
     pub(crate) survey: Survey,
     pub(crate) at: usize,
