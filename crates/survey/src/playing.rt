@@ -98,7 +98,7 @@ fn note(book: &[u8], at: usize, line: Line) -> Noting
 }
 
 // The lines of a book and their commands. What is noted of an open line changes the line alone, so the survey, which is
-// some thirty times as large, is left aside for it.
+// more than twenty times as large, is left aside for it.
 pub(crate) fn play(book: &[u8]) -> Played
     ensures { λ r. ⌜ played r ≡ play (now (book .entry)) ⌝ }
 {
