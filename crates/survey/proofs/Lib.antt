@@ -4,3 +4,4 @@ pub mod Complement
 pub mod Operands
 pub mod Digits
 pub mod Growth
+pub mod Held

@@ -62,3 +62,8 @@ commandFrom b s i =
 -- "1 the place is at or past the end"
 unfoldable pub read : List ℕ → ℕ → Report (Command × ℕ)
 read s at = unless (ltb at (length s)) 1 (commandFrom (byte s at) s (at + 1))
+
+-- the place to go on from: after a command "the place after it", and after a refusal the place where it was
+abbrev pub placeAfter : ℕ → Report (Command × ℕ) → ℕ
+placeAfter at (gives r) = r .1
+placeAfter at (refused n) = at

@@ -5,6 +5,7 @@ pub mod command;
 mod encoding;
 pub mod line;
 mod playing;
+pub mod reader;
 pub mod reading;
 pub mod refusal;
 pub mod row;

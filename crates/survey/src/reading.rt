@@ -9,7 +9,7 @@ ghost use mathlib.Core.Path.{_≡_};
 ghost use Prim.Native.Nat.{_≤_};
 ghost use lib.ListN.{length};
 ghost use Rattle.survey.specs.RoundTrip.{WritesBack};
-ghost use Rattle.survey.specs.Reading.{reading, read, speciesFrom, factorFrom, openFrom, measuredFrom, heightFrom};
+ghost use Rattle.survey.specs.Reading.{reading, read, placeAfter, speciesFrom, factorFrom, openFrom, measuredFrom, heightFrom};
 
 // The command and the place after it, or why there is none.
 pub enum Reading {
@@ -112,5 +112,15 @@ pub fn read(book: &[u8], at: usize) -> Reading
         0x06 => Reading::Is(Command::Close, from),
         0x07 => Reading::Is(Command::End, from),
         0x00 | 0x08..=0xff => Reading::Refused(Refusal::UnknownByte),
+    }
+}
+
+// The place to go on from: after a command the place after it, and after a refusal the place where it was.
+pub(crate) fn place_after(at: usize, answer: Reading) -> usize
+    ensures { λ r. ⌜ r ≡ placeAfter at (reading answer) ⌝ }
+{
+    match answer {
+        Reading::Is(_, next) => next,
+        Reading::Refused(_) => at,
     }
 }

@@ -1,0 +1,51 @@
+// A reader that holds a book and a cursor, above the plain reader of one command.
+use super::reading::Reading;
+use super::reading::place_after;
+use super::reading::read;
+ghost use mathlib.Core.Path.{_≡_};
+ghost use Rattle.survey.specs.Reading.{reading, read, placeAfter};
+
+// A book, and the place of the command that is read next.
+pub struct BookReader<'a> {
+    pub book: &'a [u8],
+    pub at: usize,
+}
+
+// What a reader answers at a place, and the place to go on from.
+pub struct Onward {
+    pub reading: Reading,
+    pub at: usize,
+}
+
+impl<'a> BookReader<'a> {
+    // At the book's first byte.
+    pub fn new(book: &'a [u8]) -> BookReader<'a>
+        ensures { λ r. ⌜ r ≡ record { book = book .entry; at = 0 } ⌝ }
+    {
+        BookReader { book, at: 0 }
+    }
+
+    // The command at the cursor, which goes on to the place after it. After a refusal the cursor is where it was.
+    pub fn next(&mut self) -> Reading
+        ensures answer { λ r. ⌜ reading r ≡ read (now (now (self .entry) .book)) (now (self .entry) .at) ⌝ }
+        ensures cursor { λ r. ⌜ now (self .exit) ≡ record { book = now (self .entry) .book; at = placeAfter (now (self .entry) .at) (reading r) } ⌝ }
+    {
+        let answer = read(self.book, self.at);
+        self.at = place_after(self.at, answer);
+        answer
+    }
+}
+
+// What a reader of the book answers with its cursor at a place, for callers that keep the book and the place themselves.
+pub fn command_at(book: &[u8], at: usize) -> Onward
+    ensures answer { λ r. ⌜ reading (r .reading) ≡ read (now (book .entry)) at ⌝ }
+    ensures cursor { λ r. ⌜ r .at ≡ placeAfter at (reading (r .reading)) ⌝ }
+{
+    let mut reader = BookReader::new(book);
+    reader.at = at;
+    let reading = reader.next();
+    Onward {
+        reading,
+        at: reader.at,
+    }
+}
