@@ -4,10 +4,12 @@ use mathlib.Core.Bool.{cond}
 use mathlib.Core.List.{List, [], _∷_, _++_}
 use lib.ListN.{length}
 use lib.Dec.{leb}
-use Rattle.biomass.specs.Report.{Report, gives, _then_}
+use Rattle.biomass.specs.Report.{Report, refused, gives, _then_}
+use Rattle.survey.specs.Refusal.{number}
 use Rattle.survey.specs.Command.{encode}
 use Rattle.survey.specs.Reading.{read}
 use Rattle.survey.specs.declared.command.Command.{Command}
+use Rattle.survey.specs.declared.reader.Through.{Through}
 
 -- the bytes of a list of commands
 unfoldable pub encodeAll : List Command → List ℕ
@@ -26,3 +28,38 @@ readUpTo (suc most) s at =
 unfoldable pub readAll : List ℕ → Report (List Command)
 unfolding readUpTo
 readAll s = readUpTo (length s) s 0
+
+-- How far a book reads from a place on: its commands up to the first refusal, the place of that and its number, which at the end of the book is 1
+pub record Reach : Type 0 where
+  pub commands : List Command
+  pub at : ℕ
+  pub why : ℕ
+
+-- no further than a refusal at the place, and a command in front of what comes after it
+abbrev pub refusedAt : ℕ → ℕ → Reach
+refusedAt at n = record { commands = []; at = at; why = n }
+
+abbrev pub inFront : Command → Reach → Reach
+inFront c r = record { commands = c ∷ r .commands; at = r .at; why = r .why }
+
+-- by what is read at the place
+abbrev pub reached : ℕ → Report (Command × ℕ) → (ℕ → Reach) → Reach
+reached at (refused n) rest = refusedAt at n
+reached at (gives r) rest = inFront (r .0) (rest (r .1))
+
+-- As in readUpTo, no book has more commands than its length. Which number it is makes no difference, where it is not below that of the bytes left
+-- (Law.Reach: enough)
+unfoldable pub reachUpTo : ℕ → List ℕ → ℕ → Reach
+reachUpTo zero s at = refusedAt at 1
+reachUpTo (suc most) s at = reached at (read s at) λ next. reachUpTo most s next
+
+unfoldable pub reach : List ℕ → ℕ → Reach
+unfolding reachUpTo
+reach s from = reachUpTo (length s) s from
+
+-- how many commands, the place and the number: what the code answers, and what is reached
+abbrev pub through : Through → ℕ × ℕ × ℕ
+through t = (t .commands, t .at, number (t .why))
+
+abbrev pub counted : Reach → ℕ × ℕ × ℕ
+counted r = (length (r .commands), r .at, r .why)

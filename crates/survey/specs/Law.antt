@@ -2,6 +2,9 @@
 --     RoundTrip: write-read, read-write       what is written is read back, and what is read and written again is the same bytes
 --     RoundTrip: reads-back, writes-back      the same as the promises of writing and reading say it, where they refuse too
 --     Book: read-all-encoded, encoded-read-all    the same of whole books: a list's encoding reads back as the list, and a book that reads through is its list's encoding
+--     Reach: stops-there, reach-encoded       a book reads as far as its first refusal, and the bytes up to there are its commands' encoding
+--     Reach: stops-at-end, one-at-end         it stops at its end with 1 alone, and with 1 nowhere else
+--     Reach: read-all-reach, reach-of-list    reading it whole answers the same; a list's encoding reads to its end, as the list
 --     Sheet: row-stands, rest-stays           the i-th row stands in its own 25 bytes of the sheet, and no byte past the rows changes
 --     Sheet: row-reads-back                   a row that is laid is read back as it was
 --     Valid: fresh-valid, apply-valid         a fresh survey is valid, and every command keeps a survey so
@@ -35,6 +38,7 @@ pub mod Bytes
 pub mod RoundTrip
 pub mod Sheet
 pub mod Book
+pub mod Reach
 -- checks that are passed and failed; a command that is taken, check by check; what each command is declined with
 pub mod Checks
 pub mod Taken

@@ -2,8 +2,10 @@
 use super::reading::Reading;
 use super::reading::place_after;
 use super::reading::read;
+use super::refusal::Refusal;
 ghost use mathlib.Core.Path.{_≡_};
 ghost use Rattle.survey.specs.Reading.{reading, read, placeAfter};
+ghost use Rattle.survey.specs.Book.{reach, through, counted};
 
 // A book, and the place of the command that is read next.
 pub struct BookReader<'a> {
@@ -15,6 +17,13 @@ pub struct BookReader<'a> {
 pub struct Onward {
     pub reading: Reading,
     pub at: usize,
+}
+
+// How far a book reads: how many commands, the place where reading stopped and why. At the end of the book that is AtEnd.
+pub struct Through {
+    pub commands: usize,
+    pub at: usize,
+    pub why: Refusal,
 }
 
 impl<'a> BookReader<'a> {
@@ -47,5 +56,22 @@ pub fn command_at(book: &[u8], at: usize) -> Onward
     Onward {
         reading,
         at: reader.at,
+    }
+}
+
+// Reads a book from a place on, command by command, to its end or to the first refusal.
+pub fn read_through(book: &[u8], from: usize) -> Through
+    ensures { λ r. ⌜ through r ≡ counted (reach (now (book .entry)) from) ⌝ }
+{
+    let mut commands: usize = 0;
+    let mut at = from;
+    loop {
+        let onward = command_at(book, at);
+        let reading = onward.reading;
+        if let Reading::Refused(why) = reading {
+            return Through { commands, at, why };
+        }
+        commands += 1;
+        at = onward.at;
     }
 }

@@ -11,15 +11,14 @@ use mathlib.Core.Path.{_≡_, _∙_, refl, sym, ap, ap₂, subst}
 use mathlib.Core.Bool.{Bool, true, false, cond, false≢true}
 use mathlib.Core.List.{List, _∷_, _++_}
 use lib.ListN.{length, length-append}
-use lib.Dec.{leb, ltb, eqb}
-use borrow.Author.Tests.{lt-ltb, le-ltb, ltb-true, ltb-false}
+use lib.Dec.{ltb}
+use borrow.Author.Tests.{lt-ltb, le-ltb, ltb-true}
 use Rattle.biomass.specs.Report.{Report, refused, gives, unless, _then_}
 use Rattle.biomass.specs.Law.Gives.{made, figure-is, number-is}
-use Rattle.biomass.specs.Law.Declines.{Declines, gives-declines, unless-declines, then-declines}
+use Rattle.biomass.specs.Law.Declines.{Declines, gives-declines, then-declines}
 use Rattle.survey.specs.Refusal.{when}
-use Rattle.survey.specs.Bytes.{byte}
 use Rattle.survey.specs.Command.{encode}
-use Rattle.survey.specs.Reading.{whole, speciesFrom, factorFrom, openFrom, measuredFrom, heightFrom, commandFrom, read}
+use Rattle.survey.specs.Reading.{read}
 use Rattle.survey.specs.Book.{encodeAll}
 use Rattle.survey.specs.Line.{measured, height}
 use Rattle.survey.specs.Survey.{fresh, withLine, withOpened, declare, giveFactor, openLine, measure, giveHeight, close, finish, apply}
@@ -30,7 +29,8 @@ use Rattle.survey.specs.AsWritten.{asWritten, isIn}
 use Rattle.survey.specs.Law.Bytes.{Stands, stands-first, stands-second, stands-itself}
 use Rattle.survey.specs.Law.RoundTrip.{read-encoded, read-moves}
 use Rattle.survey.specs.Law.Book.{AllFit, none, and-next, one-byte-at-least}
-use Rattle.survey.specs.Law.Checks.{cond-declines, then-same}
+use Rattle.survey.specs.Law.Reach.{read-declines, read-at-end}
+use Rattle.survey.specs.Law.Checks.{then-same}
 use Rattle.survey.specs.Law.Valid.{fresh-valid, apply-valid}
 use Rattle.survey.specs.Law.AsWritten.{as-written}
 use Rattle.survey.specs.Law.Named.{ofApplying, in-other, refusal-of-applying}
@@ -163,26 +163,6 @@ note-moves book at l m next e = step-moves book at _ _ next (note-line book at (
 
 -- ---- what a whole book comes to
 
--- 1 is told at the end alone, and reading has no other number but 2 and 3
-module _ (such : ℕ → Type 0) (s : List ℕ) (two : such 2) (three : such 3) where
-  whole-declines : (from width : ℕ) (c : Command) → Declines such (whole s from width c)
-  whole-declines from width c =
-      unless-declines such (leb (from + width) (length s)) 3 _ (λ short. three) (λ fits. gives-declines such (c, from + width))
-
-  read-declines : (at : ℕ) → (length s ≤ at → such 1) → Declines such (read s at)
-  unfolding read commandFrom speciesFrom factorFrom openFrom measuredFrom heightFrom
-  read-declines at one =
-      let b = byte s at in
-      unless-declines such (ltb at (length s)) 1 _ (λ out. one (ltb-false at (length s) out)) (λ inside.
-      cond-declines such (eqb b 1) _ _ (whole-declines (at + 1) 20 _)
-      (cond-declines such (eqb b 2) _ _ (whole-declines (at + 1) 2 _)
-      (cond-declines such (eqb b 3) _ _ (whole-declines (at + 1) 10 _)
-      (cond-declines such (eqb b 4) _ _ (whole-declines (at + 1) 3 _)
-      (cond-declines such (eqb b 5) _ _ (whole-declines (at + 1) 3 _)
-      (cond-declines such (eqb b 6) _ _ (gives-declines such (Command.Close, at + 1))
-      (cond-declines such (eqb b 7) _ _ (gives-declines such (Command.End, at + 1))
-      (λ n e. subst such (number-is e) two))))))))
-
 -- before the end a command is refused with another number of reading, or with one of applying
 abbrev pub inTheBook : List ℕ
 inTheBook = 2 ∷ 3 ∷ ofApplying
@@ -197,8 +177,8 @@ step-declines book at s inside =
 
 -- at the end no command is read
 step-at-end : (book : List ℕ) (at : ℕ) (s : Survey) → length book ≤ at → step book at s ≡ refused 1
-unfolding stepBy read
-step-at-end book at s none-left = rw le-ltb
+unfolding stepBy
+step-at-end book at s none-left = rw read-at-end
 
 -- what a book is refused with, and where: 1 at its end, or another number at one of its bytes
 pub data Stop (book : List ℕ) (n at : ℕ) : Type 0 where
