@@ -1,6 +1,6 @@
 #!/usr/bin/env python3
 """Makes books from text: each FILE.field that is named becomes FILE.book beside it. Where none is named, all those beside this
-script are made, and the book `largest` by the rule below.
+script are made, and the books `largest` and `cut` by the rules below.
 
 A line of a FILE.field is a command in one of the forms of COMMANDS; # begins a comment. Only the form is looked at here.
 Whether the book is accepted, the program `sheet` says.
@@ -65,12 +65,18 @@ def largest():
     yield 'end'
 
 
+def cut():
+    """The first 50 bytes of the listing, as a copy that broke off leaves them. The last command lacks 5 of its 11 bytes."""
+    return (here / 'listing.book').read_bytes()[:50]
+
+
 def main():
     named = [pathlib.Path(word) for word in sys.argv[1:]]
     for path in named or sorted(here.glob('*.field')):
         path.with_suffix('.book').write_bytes(book(path, path.read_text().splitlines()))
     if not named:
         (here / 'largest.book').write_bytes(book('largest', largest()))
+        (here / 'cut.book').write_bytes(cut())
 
 
 main()

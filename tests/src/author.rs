@@ -17,6 +17,25 @@ const RANGES: [&[(u64, u64)]; 7] = [
     &[],
 ];
 
+/// For each command a book of it alone: each operand in turn at the ends of its range, one beyond each, and at the ends
+/// of what its bytes can hold, with a sign and without; the others at their least.
+pub fn at_the_ends() -> Vec<Vec<u8>> {
+    let book = |(ranges, byte): (&&[(u64, u64)], u8)| {
+        let mut author = Author::new(0);
+        let leasts: Vec<u64> = ranges.iter().map(|&(least, _)| least).collect();
+        author.put(byte, &leasts);
+        for (i, &(least, most)) in ranges.iter().enumerate() {
+            for end in [least.wrapping_sub(1), most, most + 1, 0, 0x7fff_ffff, 0x8000_0000, u64::MAX] {
+                let mut operands = leasts.clone();
+                operands[i] = end;
+                author.put(byte, &operands);
+            }
+        }
+        author.stream
+    };
+    RANGES.iter().zip(1..).map(book).collect()
+}
+
 pub struct Author {
     pub random: Random,
     /// What was written so far.

@@ -30,6 +30,11 @@ fn widths(byte: u8) -> Option<&'static [usize]> {
     WIDTHS.get(usize::from(byte).wrapping_sub(1)).copied()
 }
 
+/// What the command of a byte is called: "" where no command has it, or there is no byte.
+pub fn name(byte: Option<&u8>) -> &'static str {
+    byte.and_then(|&byte| NAMES.get(usize::from(byte).wrapping_sub(1))).unwrap_or(&"")
+}
+
 /// The number that bytes spell, high byte first.
 fn number(bytes: &[u8]) -> u64 {
     bytes.iter().fold(0, |high, &byte| high << 8 | u64::from(byte))

@@ -6,6 +6,9 @@ use crate::{protocol, steps, streams};
 use std::mem;
 use std::ops::RangeInclusive;
 
+/// How many bytes a book has at most.
+pub const LONGEST: usize = 65_536;
+
 /// The book of document 01's listing.
 pub fn listing() -> Vec<u8> {
     let commands = [
@@ -89,6 +92,27 @@ pub fn edges(rounds: u64) -> Vec<Vec<u8>> {
         // Every species and every factor.
         books.push(Writer::new(Author::new(seed), 16, CM.0..=CM.1).book(20, 5));
     }
+    books
+}
+
+/// Some 1,000 books: accepted, damaged, by chance, and at the limits.
+pub fn of_every_kind() -> Vec<Vec<u8>> {
+    let seeds = 5_000_000..5_000_300;
+    let books = seeds.flat_map(|seed| [accepted, damaged, by_chance].map(|book| book(seed)));
+    books.chain(edges(8)).collect()
+}
+
+/// Books of about the most bytes that a book may have, and over: accepted, refused at the last byte or at the first.
+pub fn long() -> Vec<Vec<u8>> {
+    let mut books: Vec<_> = [LONGEST - 1, LONGEST, LONGEST + 1, 100_000].map(of_length).into();
+    for i in 0..books.len() {
+        let mut open = books[i].clone();
+        open.pop();
+        books.push([open, vec![0]].concat());
+        books.push(vec![0; books[i].len()]);
+    }
+    // What is over is not part of a book: the bytes up to there would be accepted.
+    books.push([of_length(LONGEST), vec![0]].concat());
     books
 }
 

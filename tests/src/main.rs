@@ -6,12 +6,14 @@ mod agree;
 mod author;
 mod book;
 mod books;
+mod commands;
 mod cores;
 mod exact;
 mod listing;
 mod natural;
 mod play;
 mod powers;
+mod printer;
 mod program;
 mod protocol;
 mod proved;
@@ -37,6 +39,7 @@ fn main() -> ExitCode {
             replay::run(&mut report);
             totals::run(&mut report);
             listing::run(&mut report);
+            commands::run(&mut report);
             if report.finish() {
                 ExitCode::SUCCESS
             } else {

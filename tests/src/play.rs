@@ -1,5 +1,5 @@
 //! What the program `replay` is to print for a stream of commands, by the book and the survey of these tests.
-use crate::book::{self, four_bytes, Command, END, NAMES, SPECIES};
+use crate::book::{self, four_bytes, Command, END, SPECIES};
 use crate::survey::{Line, Species, Survey};
 use std::collections::BTreeMap;
 
@@ -54,15 +54,14 @@ impl Play {
     }
 
     fn no_command(&mut self, byte: Option<&u8>, number: u64) -> Vec<u64> {
-        let name = byte.and_then(|&byte| NAMES.get(usize::from(byte).wrapping_sub(1)));
-        self.meets(Operation::Reading, name.unwrap_or(&""), number);
+        self.meets(Operation::Reading, book::name(byte), number);
         self.after_end = false;
         self.at += 1;
         vec![number]
     }
 
     fn command(&mut self, command: &Command, next: usize) -> Vec<u64> {
-        let name = NAMES[usize::from(command.byte) - 1];
+        let name = book::name(Some(&command.byte));
         let mut buffer: [u8; 40] = std::array::from_fn(|i| (self.at + 7 * i) as u8);
         let written = command.write(&mut buffer, self.at % 48);
         let applied = self.survey.apply(command);

@@ -1,11 +1,15 @@
--- Signed numbers of 32 bits in two's complement: a number that fits is read back as it was written, and −1 − z swaps n and −(n + 1).
+-- Signed numbers of 32 bits in two's complement: a number that fits is read back as it was written, and −1 − z swaps n and −(n + 1). What the test
+-- that a number is below 0 shows of it.
 use Prim.Native.Nat.{ℕ, _^_, _<_}
 use native.Mathlib.Omega.{arith}
-use mathlib.Core.Path.{_≡_}
+use native.Mathlib.Nat.{not-suc-le-zero}
+use mathlib.Core.Bool.{Bool, true, false, false≢true}
+use mathlib.Core.Path.{_≡_, refl, _∙_, ap, sym}
+use borrow.Author.Tests.{ltb-true}
 use lib.IntN.{ℤ, pos, negsuc, _-ℤ_}
-use lib.Signed.{mag}
+use lib.Signed.{mag, ltZ}
 use mir.Syntax.{w32}
-use mir.Val.{toZ, ofZ}
+use mir.Val.{SFits, toZ, ofZ}
 use mir.Facts.{toZ-ofZ}
 use Rattle.biomass.specs.Law.Signed.{same, sub, parts}
 
@@ -22,3 +26,39 @@ of-natural n = same (sub (parts (negsuc 0)) (parts (pos n))) (parts (negsuc n)) 
 
 pub of-negative : (n : ℕ) → negsuc 0 -ℤ negsuc n ≡ pos n
 of-negative n = same (sub (parts (negsuc 0)) (parts (negsuc n))) (parts (pos n)) (omega arith)
+
+-- a negative number, and −1 less it
+pub record Below (x : ℤ) : Type 0 where
+  pub n : ℕ
+  pub is : x ≡ negsuc n
+  pub fits : SFits w32 (negsuc 0 -ℤ word x)
+  pub turned : word (negsuc 0 -ℤ word x) ≡ pos n
+  pub small : n < 2 ^ 31
+
+-- any other
+pub record Above (x : ℤ) : Type 0 where
+  pub n : ℕ
+  pub is : x ≡ pos n
+  pub kept : word x ≡ pos n
+  pub small : n < 2 ^ 31
+
+-- what the machine's test that a number is below 0 says of it
+read : {x : ℤ} {t : Bool} → SFits w32 x → ltZ (word x) (pos 0) ≡ t → ltZ x (pos 0) ≡ t
+read f e = ap (λ z. ltZ z (pos 0)) (sym (toZ-ofZ f)) ∙ e
+
+below : (x : ℤ) → SFits w32 x → ltZ x (pos 0) ≡ true → Below x
+below (pos n) f t = absurd (not-suc-le-zero (ltb-true n 0 t))
+below (negsuc n) f t =
+    let turn : negsuc 0 -ℤ word (negsuc n) ≡ pos n = ap (λ z. negsuc 0 -ℤ z) (toZ-ofZ f) ∙ of-negative n in
+    let fits : SFits w32 (negsuc 0 -ℤ word (negsuc n)) = rw turn (record { sfits = f .sfits }) in
+    record { n = n; is = refl; fits = fits; turned = toZ-ofZ fits ∙ turn; small = f .sfits }
+
+above : (x : ℤ) → SFits w32 x → ltZ x (pos 0) ≡ false → Above x
+above (pos n) f t = record { n = n; is = refl; kept = toZ-ofZ f; small = f .sfits }
+above (negsuc n) f t = absurd (false≢true (sym t))
+
+pub is-below : {x : ℤ} → SFits w32 x → ltZ (word x) (pos 0) ≡ true → Below x
+is-below {x} f t = below x f (read f t)
+
+pub is-above : {x : ℤ} → SFits w32 x → ltZ (word x) (pos 0) ≡ false → Above x
+is-above {x} f t = above x f (read f t)
