@@ -37,8 +37,8 @@
 pub mod Bytes
 pub mod RoundTrip
 pub mod Sheet
-pub mod Book
 pub mod Reach
+pub mod Book
 -- checks that are passed and failed; a command that is taken, check by check; what each command is declined with
 pub mod Checks
 pub mod Taken

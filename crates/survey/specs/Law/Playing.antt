@@ -28,8 +28,7 @@ use Rattle.survey.specs.Valid.{Valid}
 use Rattle.survey.specs.AsWritten.{asWritten, isIn}
 use Rattle.survey.specs.Law.Bytes.{Stands, stands-first, stands-second, stands-itself}
 use Rattle.survey.specs.Law.RoundTrip.{read-encoded, read-moves}
-use Rattle.survey.specs.Law.Book.{AllFit, none, and-next, one-byte-at-least}
-use Rattle.survey.specs.Law.Reach.{read-declines, read-at-end}
+use Rattle.survey.specs.Law.Reach.{read-declines, read-at-end, AllFit, none, and-next}
 use Rattle.survey.specs.Law.Checks.{then-same}
 use Rattle.survey.specs.Law.Valid.{fresh-valid, apply-valid}
 use Rattle.survey.specs.Law.AsWritten.{as-written}
@@ -330,10 +329,10 @@ plays-list book at s cs none h ends =
     (λ is-ended. plays-end book at s is-ended (omega arith))
     (λ not-ended. plays-refused book at s 1 not-ended (step-at-end book at s (omega arith)))
 plays-list book at s cs (and-next {c} {cs = rest} f fs) h ends =
-    let one = one-byte-at-least c in
     let both : length (encode c ++ encodeAll rest) ≡ length (encode c) + length (encodeAll rest) = length-append (encode c) (encodeAll rest) in
     let after = at + length (encode c) in
     let first : read book at ≡ gives (c, after) = read-encoded book at c f (stands-first (encode c) (encodeAll rest) h) (omega arith) in
+    let moves = read-moves book at c after first in
     plays-command book at s c after first (playList rest after) (omega arith) λ t.
     plays-list book after t rest fs (stands-second (encode c) (encodeAll rest) h) (omega arith)
 

@@ -1,13 +1,14 @@
 -- How far a book reads from a place on: to the first place where reading is refused, which it is with 1 at the end and past it, and nowhere else. The
--- bytes up to there are the encoding of the commands; where that is the end, reading the whole book answers these commands, and else the refusal.
--- What is reached from a place hangs on what is read there, and each command that is read moves on within the book.
+-- bytes up to there are the encoding of the commands, whose operands fit; where that is the end, reading the whole book answers these commands, and
+-- else the refusal. The encoding of a list of commands that fit reads to its end, as that list. What is reached from a place hangs on what is read
+-- there, and each command that is read moves on within the book.
 use Prim.Native.Nat.{ℕ, zero, suc, _+_, _≤_, _<_}
 use native.Mathlib.Nat.{lt-of-not-le}
 use native.Mathlib.Decide.{decLe}
 use native.Mathlib.Omega.{arith}
 use mathlib.Core.Path.{_≡_, _∙_, refl, sym, ap, subst}
 use mathlib.Core.Bool.{Bool, true, false, cond}
-use mathlib.Core.List.{List, _∷_, _++_, append-assoc}
+use mathlib.Core.List.{List, [], _∷_, _++_, append-assoc}
 use lib.ListN.{length, take, drop, length-append, take-append-drop}
 use lib.Seq.{length-take-le}
 use lib.Dec.{leb, ltb, eqb}
@@ -16,12 +17,11 @@ use Rattle.biomass.specs.Report.{Report, refused, gives, _then_}
 use Rattle.biomass.specs.Law.Gives.{number-is}
 use Rattle.biomass.specs.Law.Declines.{Declines, gives-declines, unless-declines}
 use Rattle.survey.specs.Bytes.{byte, AllBytes}
-use Rattle.survey.specs.Command.{encode}
+use Rattle.survey.specs.Command.{encode, Fits}
 use Rattle.survey.specs.Reading.{whole, speciesFrom, factorFrom, openFrom, measuredFrom, heightFrom, commandFrom, read}
 use Rattle.survey.specs.Book.{encodeAll, readUpTo, readAll, Reach, refusedAt, inFront, reached, reachUpTo, reach}
 use Rattle.survey.specs.Law.Bytes.{Stands, nothing, stands-at, stands-first, stands-second, stands-append, stands-between, stands-itself}
 use Rattle.survey.specs.Law.RoundTrip.{read-encoded, read-is-encoded, read-moves}
-use Rattle.survey.specs.Law.Book.{AllFit, none, and-next}
 use Rattle.survey.specs.Law.Checks.{cond-declines}
 use Rattle.survey.specs.declared.command.Command.{Command}
 use Rattle.survey.specs.declared.command.Command.the-variants.{Close, End}
@@ -136,6 +136,11 @@ module _ (s : List ℕ) (from : ℕ) where
   one-at-end ends = number-is (sym stops-there ∙ read-at-end s (reach s from .at) (omega arith))
 
 -- ---- what was read up to there
+
+-- the operands of each command fit their bytes
+pub data AllFit : List Command → Type 0 where
+  none : AllFit []
+  and-next : {c : Command} {cs : List Command} → Fits c → AllFit cs → AllFit (c ∷ cs)
 
 -- The bytes from the place on to the stop are those of the commands
 pub record ReachIsEncoded (s : List ℕ) (from : ℕ) (r : Reach) : Type 0 where
