@@ -1,4 +1,4 @@
-//! One who writes commands by chance, the same in every run.
+//! One who writes commands, by chance and at the ends of their operands, the same in every run.
 use crate::book::{Command, END};
 use crate::random::Random;
 

@@ -1,5 +1,6 @@
-//! Document 01's commands once more: reading one at a place, and writing one.
+//! Document 01's commands once more: reading one at a place, reading on from there, and writing one.
 //! Err holds the number of the refusal.
+use crate::total::Refused;
 
 const AT_OR_PAST_THE_END: u64 = 1;
 const UNKNOWN_BYTE: u64 = 2;
@@ -67,6 +68,21 @@ pub fn read(book: &[u8], at: usize) -> Result<(Command, usize), u64> {
         place += width;
     }
     Ok((Command { byte, operands }, place))
+}
+
+/// The commands from a place on, each with its place, up to the first refusal.
+pub fn read_through(book: &[u8], from: usize) -> (Vec<(usize, Command)>, Refused) {
+    let mut commands = Vec::new();
+    let mut at = from;
+    loop {
+        match read(book, at) {
+            Ok((command, next)) => {
+                commands.push((at, command));
+                at = next;
+            }
+            Err(number) => return (commands, Refused { number, at }),
+        }
+    }
 }
 
 impl Command {

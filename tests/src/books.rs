@@ -1,4 +1,4 @@
-//! Whole books for totalling, the same in every run.
+//! Whole books, the same in every run.
 use crate::author::{Author, CM};
 use crate::book::{self, four_bytes, Command, CLOSE, END, FACTOR, HEIGHT, MEASURED, OPEN, SPECIES};
 use crate::random::Random;

@@ -65,23 +65,8 @@ pub fn run(report: &mut Report) {
     answers_met(report, kinds.iter().flat_map(|(_, books)| books));
 }
 
-/// The commands of a book, each with its place, up to the first refusal.
-fn read_through(book: &[u8]) -> (Vec<(usize, Command)>, Refused) {
-    let mut commands = Vec::new();
-    let mut at = 0;
-    loop {
-        match book::read(book, at) {
-            Ok((command, next)) => {
-                commands.push((at, command));
-                at = next;
-            }
-            Err(number) => return (commands, Refused { number, at }),
-        }
-    }
-}
-
 fn of_book(book: &[u8]) -> String {
-    let (commands, refused) = read_through(book);
+    let (commands, refused) = book::read_through(book, 0);
     let mut text: String = commands.iter().map(|(at, command)| format!("{at} {}\n", words(command))).collect();
     text += &format!("commands {} bytes {}\n", commands.len(), refused.at);
     // That there is no command after the last byte is no refusal to print.
@@ -113,7 +98,7 @@ fn answers_met<'a>(report: &mut Report, books: impl Iterator<Item = &'a Vec<u8>>
     report.check("commands, every refusal of reading was met, and no other", |tally| {
         let mut met = BTreeMap::<_, u64>::new();
         for book in books {
-            let Refused { number, at } = read_through(book).1;
+            let Refused { number, at } = book::read_through(book, 0).1;
             *met.entry((number, book::name(book.get(at)))).or_default() += 1;
         }
         tally.remark = format!(", of {} books", met.values().sum::<u64>());

@@ -47,17 +47,20 @@ impl Play {
         let (at, from) = (self.at, self.from);
         let numbers = match book::read(stream, at) {
             Ok((command, next)) => self.command(&command, next),
-            Err(number) => self.no_command(stream.get(at), number),
+            Err(number) => self.no_command(stream, number),
         };
         let text: Vec<String> = [at as u64].iter().chain(&numbers).map(u64::to_string).collect();
         self.lines.push(Printed { text: text.join(" "), from, to: self.at.min(stream.len()) });
     }
 
-    fn no_command(&mut self, byte: Option<&u8>, number: u64) -> Vec<u64> {
-        self.meets(Operation::Reading, book::name(byte), number);
+    /// A reader stays where it was. How far the stream reads from the next place on stands in the line too.
+    fn no_command(&mut self, stream: &[u8], number: u64) -> Vec<u64> {
+        let at = self.at;
+        self.meets(Operation::Reading, book::name(stream.get(at)), number);
         self.after_end = false;
         self.at += 1;
-        vec![number]
+        let (commands, stopped) = book::read_through(stream, self.at);
+        vec![number, at as u64, commands.len() as u64, stopped.at as u64, stopped.number]
     }
 
     fn command(&mut self, command: &Command, next: usize) -> Vec<u64> {

@@ -89,7 +89,8 @@ fn print_command(command: Command) {
     }
 }
 
-// The line of the command at a place. It answers the place after the command.
+// The line of the command at a place. It answers the place after the command. `read_through` counted one here, so that none
+// is passed over.
 fn print_at(book: &[u8], at: usize) -> usize {
     let onward = command_at(book, at);
     let reading = onward.reading;

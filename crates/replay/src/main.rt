@@ -1,19 +1,22 @@
 // Plays the commands on standard input, one survey after the other, and prints what came of each. The outside tests
 // compare what it prints, line by line, with what they work out by themselves.
 //
-// From place 0 on a command is read, to one place past the end. Where reading declines, the line has the place and the
-// number of the refusal, and the next place is one byte on. Else the line has the place and the place after the command;
-// what writing the command answered: the number (0 for none), the place after it (0 where it was refused) and a digest
-// of the buffer; and what applying it answered: the number (0 for none) and a digest of the survey that came back.
-// After the second of two commands 07 in a row a new survey begins, so that a long stream plays many.
+// From place 0 on a command is read, to one place past the end. Where reading declines, the line has the place, the number
+// of the refusal and the place to go on from; and how far the book reads from one byte on, which is the next place: how
+// many commands, where reading stops, and the number. Else the line has the place and the place after the command; what
+// writing the command answered: the number (0 for none), the place after it (0 where it was refused) and a digest of the
+// buffer; and what applying it answered: the number (0 for none) and a digest of the survey that came back. After the
+// second of two commands 07 in a row a new survey begins, so that a long stream plays many.
 mod digest;
 
 use digest::Digest;
 use libc::STDIN_FILENO;
 use libc::STDOUT_FILENO;
 use survey::command::Command;
+use survey::reader::command_at;
+use survey::reader::read_through;
 use survey::reading::Reading;
-use survey::reading::read;
+use survey::refusal::Refusal;
 use survey::survey::Survey;
 use survey::writing::Written;
 use survey::writing::write;
@@ -89,13 +92,27 @@ fn play_applying(survey: Survey, command: Command) -> Survey {
     after
 }
 
+// A refusal with the place to go on from, and how far the book reads from another place.
+fn print_refusal(book: &[u8], why: Refusal, at: usize, from: usize) {
+    number(why.number() as u64);
+    number(at as u64);
+    let through = read_through(book, from);
+    let stopped = through.why;
+    number(through.commands as u64);
+    number(through.at as u64);
+    last(stopped.number() as u64);
+}
+
 // One place of the book.
 fn turn(book: &[u8], play: Play) -> Play {
     let at = play.at;
     let survey = play.survey;
     number(at as u64);
-    match read(book, at) {
-        Reading::Is(command, next) => {
+    let onward = command_at(book, at);
+    let next = onward.at;
+    let reading = onward.reading;
+    match reading {
+        Reading::Is(command, _) => {
             number(next as u64);
             play_writing(at, command);
             let after = play_applying(survey, command);
@@ -111,10 +128,11 @@ fn turn(book: &[u8], play: Play) -> Play {
             }
         }
         Reading::Refused(why) => {
-            last(why.number() as u64);
             // The remainder is the place itself.
+            let from = at % 100_000 + 1;
+            print_refusal(book, why, next, from);
             Play {
-                at: at % 100_000 + 1,
+                at: from,
                 survey,
                 after_end: false,
             }

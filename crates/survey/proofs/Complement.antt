@@ -28,7 +28,7 @@ pub of-negative : (n : ℕ) → negsuc 0 -ℤ negsuc n ≡ pos n
 of-negative n = same (sub (parts (negsuc 0)) (parts (negsuc n))) (parts (pos n)) (omega arith)
 
 -- a negative number, and −1 less it
-pub record Below (x : ℤ) : Type 0 where
+pub record Negative (x : ℤ) : Type 0 where
   pub n : ℕ
   pub is : x ≡ negsuc n
   pub fits : SFits w32 (negsuc 0 -ℤ word x)
@@ -36,7 +36,7 @@ pub record Below (x : ℤ) : Type 0 where
   pub small : n < 2 ^ 31
 
 -- any other
-pub record Above (x : ℤ) : Type 0 where
+pub record Natural (x : ℤ) : Type 0 where
   pub n : ℕ
   pub is : x ≡ pos n
   pub kept : word x ≡ pos n
@@ -46,19 +46,19 @@ pub record Above (x : ℤ) : Type 0 where
 read : {x : ℤ} {t : Bool} → SFits w32 x → ltZ (word x) (pos 0) ≡ t → ltZ x (pos 0) ≡ t
 read f e = ap (λ z. ltZ z (pos 0)) (sym (toZ-ofZ f)) ∙ e
 
-below : (x : ℤ) → SFits w32 x → ltZ x (pos 0) ≡ true → Below x
-below (pos n) f t = absurd (not-suc-le-zero (ltb-true n 0 t))
-below (negsuc n) f t =
+negative : (x : ℤ) → SFits w32 x → ltZ x (pos 0) ≡ true → Negative x
+negative (pos n) f t = absurd (not-suc-le-zero (ltb-true n 0 t))
+negative (negsuc n) f t =
     let turn : negsuc 0 -ℤ word (negsuc n) ≡ pos n = ap (λ z. negsuc 0 -ℤ z) (toZ-ofZ f) ∙ of-negative n in
     let fits : SFits w32 (negsuc 0 -ℤ word (negsuc n)) = rw turn (record { sfits = f .sfits }) in
     record { n = n; is = refl; fits = fits; turned = toZ-ofZ fits ∙ turn; small = f .sfits }
 
-above : (x : ℤ) → SFits w32 x → ltZ x (pos 0) ≡ false → Above x
-above (pos n) f t = record { n = n; is = refl; kept = toZ-ofZ f; small = f .sfits }
-above (negsuc n) f t = absurd (false≢true (sym t))
+natural : (x : ℤ) → SFits w32 x → ltZ x (pos 0) ≡ false → Natural x
+natural (pos n) f t = record { n = n; is = refl; kept = toZ-ofZ f; small = f .sfits }
+natural (negsuc n) f t = absurd (false≢true (sym t))
 
-pub is-below : {x : ℤ} → SFits w32 x → ltZ (word x) (pos 0) ≡ true → Below x
-is-below {x} f t = below x f (read f t)
+pub is-negative : {x : ℤ} → SFits w32 x → ltZ (word x) (pos 0) ≡ true → Negative x
+is-negative {x} f t = negative x f (read f t)
 
-pub is-above : {x : ℤ} → SFits w32 x → ltZ (word x) (pos 0) ≡ false → Above x
-is-above {x} f t = above x f (read f t)
+pub is-natural : {x : ℤ} → SFits w32 x → ltZ (word x) (pos 0) ≡ false → Natural x
+is-natural {x} f t = natural x f (read f t)

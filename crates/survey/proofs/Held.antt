@@ -1,8 +1,8 @@
--- What the walks of the functions over a `BookReader` share. Of one that is owned, at any lifetime of its book: its number fits, its book is a slice, its
--- number can be changed, and one in a local lies in memory, as does what is lent of it. Each holds since what a struct owns is what its fields own, the
--- borrow of a slice and the facts of a number.
+-- What the walks of the functions over a `BookReader` share. Of one that is owned, at any lifetime of its book: its number fits, its book's length has
+-- room, its number can be changed, and it lies in memory, in a local or where it is lent. Each holds since what a struct owns is what its fields own, the
+-- borrow of a slice and the facts of a number. Then two steps of a walk: what a call has left, and the facts of a contract of two clauses.
 -- Assumes `Given`.
-use mathlib.Core.Path.{refl}
+use mathlib.Core.Path.{_≡_, refl}
 use Prim.Native.Nat.{ℕ, _<_, _^_}
 use mathlib.Core.List.{List, [], _∷_}
 use lib.ListN.{length}
@@ -30,13 +30,19 @@ use denote.Struct.Laws as LL
 use denote.Struct.Rest.{own-put}
 use denote.Struct.Steps.{spelt}
 use denote.Triple.Walked.{says}
+use Rattle.survey.specs.Reading.{reading, read}
 use Rattle.survey.specs.declared.reader.BookReader.{BookReader}
+use Rattle.survey.specs.declared.reading.Reading.{Reading}
 use Rattle.survey.proofs.reader.BookReader as T
 use Rattle.survey.proofs.reader.BookReader.Laws as T′
 
 -- the reader with the place n
 abbrev pub moved : BookReader → ℕ → BookReader
 moved h n = record { book = h .book; at = n }
+
+-- what the plain reader answers at its place
+abbrev pub Answered : BookReader → Reading → Type 0
+Answered h r = reading r ≡ read (now (h .book)) (h .at)
 
 module _ (α : NamedLft) where
   -- the struct's type, its description and its laws

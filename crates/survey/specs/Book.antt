@@ -43,15 +43,15 @@ abbrev pub inFront : Command → Reach → Reach
 inFront c r = record { commands = c ∷ r .commands; at = r .at; why = r .why }
 
 -- by what is read at the place
-abbrev pub reached : ℕ → Report (Command × ℕ) → (ℕ → Reach) → Reach
-reached at (refused n) rest = refusedAt at n
-reached at (gives r) rest = inFront (r .0) (rest (r .1))
+abbrev pub byRead : ℕ → Report (Command × ℕ) → (ℕ → Reach) → Reach
+byRead at (refused n) rest = refusedAt at n
+byRead at (gives r) rest = inFront (r .0) (rest (r .1))
 
--- As in readUpTo, no book has more commands than its length. Which number it is makes no difference, where it is not below that of the bytes left
--- (Law.Reach: enough)
+-- As many commands are allowed as the book has bytes. Each takes a byte at least, so that at 0 no byte is left, where reading is refused with 1. Any
+-- number not below that of the bytes left gives the same (Law.Reach: enough)
 unfoldable pub reachUpTo : ℕ → List ℕ → ℕ → Reach
 reachUpTo zero s at = refusedAt at 1
-reachUpTo (suc most) s at = reached at (read s at) λ next. reachUpTo most s next
+reachUpTo (suc most) s at = byRead at (read s at) λ next. reachUpTo most s next
 
 unfoldable pub reach : List ℕ → ℕ → Reach
 unfolding reachUpTo

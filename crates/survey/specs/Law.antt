@@ -3,7 +3,7 @@
 --     RoundTrip: reads-back, writes-back      the same as the promises of writing and reading say it, where they refuse too
 --     Book: read-all-encoded, encoded-read-all    the same of whole books: a list's encoding reads back as the list, and a book that reads through is its list's encoding
 --     Reach: stops-there, reach-encoded       a book reads as far as its first refusal, and the bytes up to there are its commands' encoding
---     Reach: stops-at-end, one-at-end         it stops at its end with 1 alone, and with 1 nowhere else
+--     Reach: stops-at-end, one-at-end         from a place not past its end it stops at its end with 1 alone, and with 1 nowhere else; `enough`, as in Playing
 --     Reach: read-all-reach, reach-of-list    reading it whole answers the same; a list's encoding reads to its end, as the list
 --     Sheet: row-stands, rest-stays           the i-th row stands in its own 25 bytes of the sheet, and no byte past the rows changes
 --     Sheet: row-reads-back                   a row that is laid is read back as it was

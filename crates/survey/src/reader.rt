@@ -19,7 +19,8 @@ pub struct Onward {
     pub at: usize,
 }
 
-// How far a book reads: how many commands, the place where reading stopped and why. At the end of the book that is AtEnd.
+// How far a book reads: how many commands, the place where reading stopped, and why, which is AtEnd at the end of the book
+// and past it.
 pub struct Through {
     pub commands: usize,
     pub at: usize,

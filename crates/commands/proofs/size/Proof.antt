@@ -6,15 +6,15 @@ use native.Mathlib.Omega.{arith}
 use mathlib.Core.Path.{_≡_, _∙_, ap, sym}
 use borrow.Author.Needs.{needs}
 use lib.IntN.{natAbs}
-use Rattle.survey.proofs.Complement.{Below, Above, is-below, is-above}
+use Rattle.survey.proofs.Complement.{Negative, Natural, is-negative, is-natural}
 use Rattle.commands.proofs.size.Statement.{statement}
 use Rattle.commands.proofs.size.Tie as tie
 
-negative : (c : tie.Then1) → Below (c .before .args .n)
-negative c = is-below (c .before .fits .n) (c .if1 .taken)
+negative : (c : tie.Then1) → Negative (c .before .args .n)
+negative c = is-negative (c .before .fits .n) (c .if1 .taken)
 
-natural : (c : tie.Else1) → Above (c .before .args .n)
-natural c = is-above (c .before .fits .n) (c .if1 .left)
+natural : (c : tie.Else1) → Natural (c .before .args .n)
+natural c = is-natural (c .before .fits .n) (c .if1 .left)
 
 sub-result : tie.Need-sub-result
 sub-result c = negative c .fits

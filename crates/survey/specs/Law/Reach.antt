@@ -1,7 +1,7 @@
 -- How far a book reads from a place on: to the first place where reading is refused, which it is with 1 at the end and past it, and nowhere else. The
 -- bytes up to there are the encoding of the commands, whose operands fit; where that is the end, reading the whole book answers these commands, and
 -- else the refusal. The encoding of a list of commands that fit reads to its end, as that list. What is reached from a place hangs on what is read
--- there, and each command that is read moves on within the book.
+-- there, and each command that is read moves on within the book (Law.RoundTrip: read-moves).
 use Prim.Native.Nat.{ℕ, zero, suc, _+_, _≤_, _<_}
 use native.Mathlib.Nat.{lt-of-not-le}
 use native.Mathlib.Decide.{decLe}
@@ -19,7 +19,7 @@ use Rattle.biomass.specs.Law.Declines.{Declines, gives-declines, unless-decline
 use Rattle.survey.specs.Bytes.{byte, AllBytes}
 use Rattle.survey.specs.Command.{encode, Fits}
 use Rattle.survey.specs.Reading.{whole, speciesFrom, factorFrom, openFrom, measuredFrom, heightFrom, commandFrom, read}
-use Rattle.survey.specs.Book.{encodeAll, readUpTo, readAll, Reach, refusedAt, inFront, reached, reachUpTo, reach}
+use Rattle.survey.specs.Book.{encodeAll, readUpTo, readAll, Reach, refusedAt, inFront, byRead, reachUpTo, reach}
 use Rattle.survey.specs.Law.Bytes.{Stands, nothing, stands-at, stands-first, stands-second, stands-append, stands-between, stands-itself}
 use Rattle.survey.specs.Law.RoundTrip.{read-encoded, read-is-encoded, read-moves}
 use Rattle.survey.specs.Law.Checks.{cond-declines}
@@ -55,8 +55,8 @@ module _ (s : List ℕ) (at : ℕ) where
   read-at-end none-left = rw le-ltb
 
   -- and with 1 nowhere else
-  pub by-one-at-end : (n : ℕ) → read s at ≡ refused n → n ≡ 1 → length s ≤ at
-  by-one-at-end =
+  pub one-only-at-end : (n : ℕ) → read s at ≡ refused n → n ≡ 1 → length s ≤ at
+  one-only-at-end =
       read-declines (λ n. n ≡ 1 → length s ≤ at) s (λ two. absurd (omega arith)) (λ three. absurd (omega arith)) at (λ none-left one. none-left)
 
 -- ---- how reading goes on from a place
@@ -67,7 +67,7 @@ module _ (s : List ℕ) (P : ℕ → Reach → Type 0)
     (stops : (at n : ℕ) → read s at ≡ refused n → P at (refusedAt at n))
     (goes-on : (at : ℕ) (c : Command) (next : ℕ) (r : Reach) → read s at ≡ gives (c, next) → P next r → P at (inFront c r)) where
   by-read : (at : ℕ) (r : Report (Command × ℕ)) (rest : ℕ → Reach) → read s at ≡ r
-      → ((c : Command) (next : ℕ) → r ≡ gives (c, next) → P next (rest next)) → P at (reached at r rest)
+      → ((c : Command) (next : ℕ) → r ≡ gives (c, next) → P next (rest next)) → P at (byRead at r rest)
   by-read at (refused n) rest e after = stops at n e
   by-read at (gives (c, next)) rest e after = goes-on at c next (rest next) e (after c next refl)
 
@@ -100,9 +100,9 @@ enough s = reach-by s (λ at r. (most : ℕ) → length s ≤ at + most → reac
 
 module _ (s : List ℕ) (at : ℕ) where
   -- it hangs on what is read at the place
-  reach-is : {r : Report (Command × ℕ)} → read s at ≡ r → reach s at ≡ reached at r (reach s)
+  reach-is : {r : Report (Command × ℕ)} → read s at ≡ r → reach s at ≡ byRead at r (reach s)
   unfolding reach reachUpTo
-  reach-is e = sym (enough s at (suc (length s)) (omega arith)) ∙ ap (λ (r : Report (Command × ℕ)). reached at r (reach s)) e
+  reach-is e = sym (enough s at (suc (length s)) (omega arith)) ∙ ap (λ (r : Report (Command × ℕ)). byRead at r (reach s)) e
 
   -- a refusal stops it, at its place
   pub reach-refused : (n : ℕ) → read s at ≡ refused n → reach s at ≡ refusedAt at n
@@ -128,7 +128,7 @@ module _ (s : List ℕ) (from : ℕ) where
   pub stops-at-end : from ≤ length s → reach s from .why ≡ 1 → reach s from .at ≡ length s
   stops-at-end inside one =
       let below = stop-in-book inside in
-      let above = by-one-at-end s (reach s from .at) (reach s from .why) stops-there one in
+      let above = one-only-at-end s (reach s from .at) (reach s from .why) stops-there one in
       omega arith
 
   -- at the end the number is no other
@@ -186,8 +186,8 @@ throughout-front c r = by-end (eqb (r .why) 1)
 -- before the end, where no refusal has the number 1
 reads-one : (s : List ℕ) (at : ℕ) (r : Report (Command × ℕ)) (after : ℕ → Report (List Command)) (rest : ℕ → Reach)
     → ((next : ℕ) → after next ≡ throughout (rest next)) → at < length s → read s at ≡ r
-    → (r then λ x. after (x .1) then λ cs. gives (x .0 ∷ cs)) ≡ throughout (reached at r rest)
-reads-one s at (refused n) after rest same inside e = rw (ne-eqb n 1 λ one. absurd (omega (arith, by-one-at-end s at n e one)))
+    → (r then λ x. after (x .1) then λ cs. gives (x .0 ∷ cs)) ≡ throughout (byRead at r rest)
+reads-one s at (refused n) after rest same inside e = rw (ne-eqb n 1 λ one. absurd (omega (arith, one-only-at-end s at n e one)))
 reads-one s at (gives (c, next)) after rest same inside e =
     ap (λ (r : Report (List Command)). r then λ cs. gives (c ∷ cs)) (same next) ∙ throughout-front c (rest next)
 

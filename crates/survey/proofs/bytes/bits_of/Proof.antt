@@ -5,15 +5,15 @@ use native.Mathlib.Omega.{arith}
 use mathlib.Core.Path.{_∙_, ap, sym}
 use lib.IntN.{natAbs}
 use Rattle.survey.specs.Bytes.{unsigned}
-use Rattle.survey.proofs.Complement.{Below, Above, is-below, is-above}
+use Rattle.survey.proofs.Complement.{Negative, Natural, is-negative, is-natural}
 use Rattle.survey.proofs.bytes.bits_of.Statement.{statement}
 use Rattle.survey.proofs.bytes.bits_of.Tie as tie
 
-negative : (c : tie.Then1) → Below (c .before .args .x)
-negative c = is-below (c .before .fits .x) (c .if1 .taken)
+negative : (c : tie.Then1) → Negative (c .before .args .x)
+negative c = is-negative (c .before .fits .x) (c .if1 .taken)
 
-natural : (c : tie.Else1) → Above (c .before .args .x)
-natural c = is-above (c .before .fits .x) (c .if1 .left)
+natural : (c : tie.Else1) → Natural (c .before .args .x)
+natural c = is-natural (c .before .fits .x) (c .if1 .left)
 
 sub-result : tie.Need-sub-result
 sub-result c = negative c .fits

@@ -50,12 +50,11 @@ use denote.Triple.Spec.{Meets, tripleOf}
 use denote.Triple.Table.{entered, cited}
 use denote.Triple.Walked.{Stays, stay-none, stay-none-slice, walkOf, goes-none, goes-none-slice, Walks, ends-at, walked, walk-meets}
 use denote.Exit.{yes}
-use Rattle.survey.specs.Reading.{reading, placeAfter}
-use Rattle.survey.specs.Reading as Spec
+use Rattle.survey.specs.Reading.{reading, read, placeAfter}
 use Rattle.survey.specs.declared.reader.BookReader.{BookReader}
 use Rattle.survey.specs.declared.reader.Onward.{Onward}
 use Rattle.survey.specs.declared.reading.Reading.{Reading}
-use Rattle.survey.proofs.Held.{moved, Reader, declared, laws, Own, InLocal, at-fits, own-moved, lies-in, lies-out, gave, says-both}
+use Rattle.survey.proofs.Held.{moved, Answered, Reader, declared, laws, Own, InLocal, at-fits, own-moved, lies-in, lies-out, gave, says-both}
 use Rattle.survey.proofs.reader.BookReader.Laws as T′
 use Rattle.survey.proofs.reader.Onward as O
 use Rattle.survey.proofs.reader.Onward.Laws as O′
@@ -156,13 +155,11 @@ module _ {M : Type 1} (𝓤 : URA M) (H : Heap 𝓤) (A : Atoms 𝓤) (W : Given
       nothing ! $ move ! (2 ∷ 0 ∷ []) $ join ! $ move ! (1 ∷ 0 ∷ []) $ join ! $
       nothing ! $ move ! (2 ∷ 0 ∷ []) $ fjoin ! $ move ! (1 ∷ 0 ∷ []) $ join ! $ frame ! $ done !
 
-  -- what it ensures, of its answer t and of the reader's last value z
-  abbrev Answered : BookReader → Reading → Type 0
-  Answered h t = reading t ≡ Spec.read (now (h .book)) (h .at)
-
+  -- the reader's last value z after the answer t
   abbrev Went : BookReader → Reading → BookReader → Type 0
   Went h t z = z ≡ moved h (placeAfter (h .at) (reading t))
 
+  -- what the call has left, and of that what `next` ensures
   abbrev next-left : BookReader → ℕ → ℕ → GName → Val → Item 𝓤
   next-left h l ν δ w = later (some (λ (t : Reading).
       ((‵ (flft (ν ∷ κ) (right q)) ⊛ ‵ (flft κ (left q)) ⊛ ‵ ftrue) ⊛ ‵ (S.the-row .own t (w ∷ [])))
@@ -192,7 +189,7 @@ module _ {M : Type 1} (𝓤 : URA M) (H : Heap 𝓤) (A : Atoms 𝓤) (W : Given
       suffices ! _
       (ends-at 𝓤 H A command-at.ended stayed (command-at.clauses 𝓤 H A at-mem run) W (((κ, tt), (q, tt), tt, (s, (n, tt)), vals), tt) (made-val t z) (made t z)
       (tt, (tt, tt)) (tt, (tt, tt))) $
-      says-both ! (answered ∙ ap (λ (x : BookReader). Spec.read (now (x .book)) n) e) (ap (λ (x : BookReader). x .at) went) $
+      says-both ! (answered ∙ ap (λ (x : BookReader). read (now (x .book)) n) e) (ap (λ (x : BookReader). x .at) went) $
       move ! (2 ∷ []) $ split ! $ move ! (0 ∷ 3 ∷ []) $ use2 W (‵ (flft κ q)) (W .lfts .lft-join κ q) $ join ! $ frame ! $
       nothing ! $ owned ! usize (Is usize) (uint-makes 𝓤 H A W w64) n _ (refl, n-fits) $ fjoin ! $ move ! (2 ∷ 0 ∷ []) $ fjoin ! $ frame ! $ done !
 

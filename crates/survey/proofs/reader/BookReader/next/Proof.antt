@@ -50,10 +50,9 @@ use denote.Triple.Table.{entered, cited}
 use denote.Triple.Walked.{Stays, stay-ref, walkOf, goes-ref, Walks, ends-at, walked, walk-meets}
 use Rattle.survey.specs.RoundTrip.{WritesBack}
 use Rattle.survey.specs.Reading.{reading, placeAfter}
-use Rattle.survey.specs.Reading as Spec
 use Rattle.survey.specs.declared.reader.BookReader.{BookReader}
 use Rattle.survey.specs.declared.reading.Reading.{Reading}
-use Rattle.survey.proofs.Held.{moved, Reader, declared, laws, Own, Lying, Cell, at-fits, book-room, own-moved, cell-in, cell-out, gave, says-both}
+use Rattle.survey.proofs.Held.{moved, Answered, Reader, declared, laws, Own, Lying, Cell, at-fits, book-room, own-moved, cell-in, cell-out, gave, says-both}
 use Rattle.survey.proofs.reader.BookReader.Laws as T′
 use Rattle.survey.proofs.reading.Reading as S
 use Rattle.survey.proofs.reading.Reading.Laws as S′
@@ -130,16 +129,13 @@ module _ {M : Type 1} (𝓤 : URA M) (H : Heap 𝓤) (A : Atoms 𝓤) (W : Given
       move ! (1 ∷ []) $ drop ! $ nothing ! $ owned ! usize (Is usize) (uint-makes 𝓤 H A W w64) (h .at) _ (refl, fits) $ fjoin ! $ move ! (1 ∷ 0 ∷ []) $
       fjoin ! $ move ! (2 ∷ 0 ∷ []) $ use2 W (raw (Read 𝓤 H A at-mem run .pre to-read)) asked $ frame ! $ done !)
 
-  abbrev Answered : Reading → Type 0
-  Answered r = reading r ≡ Spec.read (now (h .book)) (h .at)
-
   abbrev read-ensures : Reading → SProp 𝓤
   read-ensures r = ensured 𝓤 H A read.ended (read.clauses 𝓤 H A at-mem run) (κ′, tt) (h .book, (h .at, tt)) tt r
 
-  answered : (r : Reading) → ent 𝓤 (read-ensures r) (fact 𝓤 (Answered r))
+  answered : (r : Reading) → ent 𝓤 (read-ensures r) (fact 𝓤 (Answered h r))
   answered r =
       exE 𝓤 _ (λ ws. via 𝓤 _ (snd∗ 𝓤 (sem 𝓤 H A (lasts read.ended (κ′, tt) (h .book, (h .at, tt)) ws)) _)
-      (fst∗ 𝓤 (fact 𝓤 (Answered r)) (fact 𝓤 (WritesBack (now (h .book)) (h .at) (reading r)))))
+      (fst∗ 𝓤 (fact 𝓤 (Answered h r)) (fact 𝓤 (WritesBack (now (h .book)) (h .at) (reading r)))))
 
   -- ---- the call of `place_after`, at the answer r with the machine value u
   abbrev to-after : Reading → Val → After 𝓤 H A at-mem run .Ghost
@@ -164,7 +160,7 @@ module _ {M : Type 1} (𝓤 : URA M) (H : Heap 𝓤) (A : Atoms 𝓤) (W : Given
   at-exit r u n =
       ‵ (fobs γ (Reader α .coded .code (moved h n))) ∷ ‵ (fbor κ (Body (mem (Reader α)) b o γ)) ∷ ‵ (flft κ q) ∷ token ∷ ‵ (S.the-row .own r (u ∷ [])) ∷ []
 
-  exits : (r : Reading) (u : Val) (n : ℕ) → Answered r → Goes r n → ent 𝓤 (⋆ 𝓤 H A (at-exit r u n)) (Post u)
+  exits : (r : Reading) (u : Val) (n : ℕ) → Answered h r → Goes r n → ent 𝓤 (⋆ 𝓤 H A (at-exit r u n)) (Post u)
   exits r u n e e′ =
       qed W (at-exit r u n) ∵
       suffices ! _
@@ -194,7 +190,7 @@ module _ {M : Type 1} (𝓤 : URA M) (H : Heap 𝓤) (A : Atoms 𝓤) (W : Given
         move ! (5 ∷ 1 ∷ []) $ use2 W (raw (Read 𝓤 H A at-mem run .pre to-read) ⊛ ‵ (Own α h)) (apart (at-fits α h is)) $ split ! $
         calls-at ! fm (Read 𝓤 H A at-mem run) known-read to-read
         (and-then ! (load ! (from ! (stop !)) (look ! 11 refl)) (and-then ! (load ! (from ! (stop !)) (look ! 9 refl)) (no-more !))) (λ u.
-        gave ! tt token (λ r. S.the-row .own r (u ∷ [])) read-ensures Answered (id⊢ 𝓤 _) answered (λ r e.
+        gave ! tt token (λ r. S.the-row .own r (u ∷ [])) read-ensures (Answered h) (id⊢ 𝓤 _) answered (λ r e.
         -- [the answer; 'a's token; what the struct owns; its cell; the open borrow; obs; auth; …; _5; …; _4; …; _3; …; _2; …; _1; …; room for _0; …]
         peeks ! S.the-row (Is S.the-row) (shows 𝓤 H A S.the-row) r (u ∷ []) (λ is′.
         land ! (from ! (stop !)) (init ! 14 refl (EL.lawful S.the-type S′.the-laws 𝓤 H A W tt .typed r _ is′ .0)) $
