@@ -85,21 +85,13 @@ fn read_out(book: &[u8]) {
     }
 }
 
-// Whether the input goes on after these bytes. It can only where they fill the buffer, and then one more byte tells.
-fn goes_on(n: usize) -> bool {
-    let mut more = [0u8; 1];
-    if n < 65_536 {
-        return false;
-    }
-    0 < io::read_full(STDIN_FILENO, &mut more)
-}
-
 fn main() {
-    let mut book = io::large_buffer();
-    let n = io::read_full(STDIN_FILENO, &mut book);
-    if goes_on(n) {
+    // A byte more than a book may have, so that longer input shows.
+    let mut input = [0u8; 65_537];
+    let n = io::read_full(STDIN_FILENO, &mut input);
+    if 65_536 < n {
         text(b"too long\n");
         return;
     }
-    read_out(&book[..n]);
+    read_out(&input[..n]);
 }
