@@ -22,8 +22,8 @@ use native.Mathlib.Omega.{arith}
 use mathlib.Core.Path.{_≡_, _∙_, refl, sym, ap, subst}
 use mathlib.Core.Bool.{Bool, true, false}
 use mathlib.Core.List.{List, [], _∷_, _++_, append-assoc, append-nil}
-use lib.ListN.{length, take, drop, length-append}
-use lib.Seq.{append-snoc, getD-append-seam, drop-cons}
+use lib.ListN.{length, take, drop, length-append, take-append-drop}
+use lib.Seq.{append-snoc, getD-append-seam, drop-cons, length-take-le}
 use lib.Dec.{ltb}
 use lib.IntN.{ℤ, pos, negsuc}
 use lib.Signed.{mag}
@@ -84,6 +84,14 @@ pub stands-taken : (l s : List ℕ) (i : ℕ) → Stands l s i → i + length l 
 stands-taken l s i nothing fits = refl
 stands-taken l s i (before {x} {l = rest} e h) fits =
     rw (drop-cons s i 0 (omega arith), e, ← add-one, stands-taken rest s (i + 1) h (omega arith))
+
+-- and what is taken from a place on stands there
+pub taken-stands : (l s : List ℕ) (i : ℕ) → i ≤ length s → take (length l) (drop i s) ≡ l → Stands l s i
+taken-stands l s i inside taken =
+    let rest = drop (length l) (drop i s) in
+    let parts : take i s ++ l ++ rest ≡ s =
+    append-assoc (take i s) l rest ∙ ap (λ (m : List ℕ). take i s ++ (m ++ rest)) (sym taken) ∙ rw (take-append-drop, take-append-drop) in
+    subst (λ (t : List ℕ). Stands l t i) parts (stands-at (stands-between (take i s) l rest) (length-take-le i s inside))
 
 -- ---- the number in k bytes, and the k bytes of a number
 

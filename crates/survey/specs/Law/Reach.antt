@@ -8,9 +8,8 @@ use native.Mathlib.Decide.{decLe}
 use native.Mathlib.Omega.{arith}
 use mathlib.Core.Path.{_≡_, _∙_, refl, sym, ap, subst}
 use mathlib.Core.Bool.{Bool, true, false, cond}
-use mathlib.Core.List.{List, [], _∷_, _++_, append-assoc}
-use lib.ListN.{length, take, drop, length-append, take-append-drop}
-use lib.Seq.{length-take-le}
+use mathlib.Core.List.{List, [], _∷_}
+use lib.ListN.{length, length-append}
 use lib.Dec.{leb, ltb, eqb}
 use borrow.Author.Tests.{le-leb, lt-leb, le-ltb, ltb-false, ne-eqb}
 use Rattle.biomass.specs.Report.{Report, refused, gives, _then_}
@@ -20,7 +19,7 @@ use Rattle.survey.specs.Bytes.{byte, AllBytes}
 use Rattle.survey.specs.Command.{encode, Fits}
 use Rattle.survey.specs.Reading.{whole, speciesFrom, factorFrom, openFrom, measuredFrom, heightFrom, commandFrom, read}
 use Rattle.survey.specs.Book.{encodeAll, readUpTo, readAll, Reach, refusedAt, inFront, byRead, reachUpTo, reach}
-use Rattle.survey.specs.Law.Bytes.{Stands, nothing, stands-at, stands-first, stands-second, stands-append, stands-between, stands-itself}
+use Rattle.survey.specs.Law.Bytes.{Stands, nothing, stands-at, stands-first, stands-second, stands-append, taken-stands, stands-itself}
 use Rattle.survey.specs.Law.RoundTrip.{read-encoded, read-is-encoded, read-moves}
 use Rattle.survey.specs.Law.Checks.{cond-declines}
 use Rattle.survey.specs.declared.command.Command.{Command}
@@ -147,14 +146,6 @@ pub record ReachIsEncoded (s : List ℕ) (from : ℕ) (r : Reach) : Type 0 where
   pub fit : AllFit (r .commands)
   pub stands : Stands (encodeAll (r .commands)) s from
   pub stop-is : r .at ≡ from + length (encodeAll (r .commands))
-
--- bytes that are taken from a place on stand there
-taken-stands : (l s : List ℕ) (i : ℕ) → i ≤ length s → take (length l) (drop i s) ≡ l → Stands l s i
-taken-stands l s i inside taken =
-    let rest = drop (length l) (drop i s) in
-    let parts : take i s ++ l ++ rest ≡ s =
-    append-assoc (take i s) l rest ∙ ap (λ (m : List ℕ). take i s ++ (m ++ rest)) (sym taken) ∙ rw (take-append-drop, take-append-drop) in
-    subst (λ (t : List ℕ). Stands l t i) parts (stands-at (stands-between (take i s) l rest) (length-take-le i s inside))
 
 pub reach-encoded : (s : List ℕ) (from : ℕ) → AllBytes s → ReachIsEncoded s from (reach s from)
 unfolding encodeAll
