@@ -20,6 +20,10 @@ local X = toZ w64 (ofZ w64 X)
 pub read-back : {z : ℤ} → mag z < 2 ^ 63 → local z ≡ z
 read-back h = toZ-ofZ (record { sfits = h })
 
+-- one written to a local of 32 bits and read back
+abbrev pub local32 : ℤ → ℤ
+local32 X = toZ w32 (ofZ w32 X)
+
 pub record Small (X x : ℤ) (k : ℕ) : Type 0 where
   pub is : X ≡ x
   pub size : natAbs x ≤ k
@@ -47,7 +51,7 @@ numeral n = record { is = refl; size = omega arith }
 pub double : {x : ℤ} {k : ℕ} → SFits w64 x → natAbs x ≤ k → Small (local x) x k
 double f h = record { is = toZ-ofZ f; size = h }
 
-pub word : {x : ℤ} → SFits w32 x → Small (toZ w32 (ofZ w32 x)) x (2 ^ 31)
+pub word : {x : ℤ} → SFits w32 x → Small (local32 x) x (2 ^ 31)
 word {x} f = record { is = toZ-ofZ f; size = natAbs-le x (f .sfits) }
 
 -- a parameter that is a u64 of known size, cast to an i64

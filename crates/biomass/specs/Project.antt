@@ -25,7 +25,8 @@ projectOf sums N =
       high = cond (eqb N 0) (dioxide (sums .low)) (oneMore (dioxide (sums .high)));
     }
 
--- A sum is declined where eleven times it passes 64 bits. Those of 32 rows are far below (Law.Tree)
+-- A sum is declined where eleven times it passes 64 bits. Those of 32 rows come to half of that at most (one row: Law.Tree; the sums: Law.Sums of the
+-- crate `survey`)
 abbrev pub greatestSum : ℕ
 greatestSum = 1676976733973595601
 

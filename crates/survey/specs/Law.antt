@@ -1,18 +1,20 @@
 -- What is proved of the definitions, each law once, for this crate's proofs and for the layer above.
 --     RoundTrip: write-read, read-write       what is written is read back, and what is read and written again is the same bytes
 --     RoundTrip: reads-back, writes-back      the same as the promises of writing and reading say it, where they refuse too
+--     RoundTrip: write-keeps, write-keeps-length, refused-keeps    writing leaves every other byte and the buffer's length as they were; refused, every byte
 --     Book: read-all-encoded, encoded-read-all    the same of whole books: a list's encoding reads back as the list, and a book that reads through is its list's encoding
+--     Book: encode-all-one                    so two lists with the same bytes are the same list
 --     Reach: stops-there, reach-encoded       a book reads as far as its first refusal, and the bytes up to there are its commands' encoding
 --     Reach: stops-at-end, one-at-end         from a place not past its end it stops at its end with 1 alone, and with 1 nowhere else; `enough`, as in Playing
 --     Reach: read-all-reach, reach-of-list    reading it whole answers the same; a list's encoding reads to its end, as the list
 --     Sheet: row-stands, rest-stays           the i-th row stands in its own 25 bytes of the sheet, and no byte past the rows changes
 --     Sheet: row-reads-back                   a row that is laid is read back as it was
---     Valid: fresh-valid, apply-valid         a fresh survey is valid, and every command keeps a survey so
+--     Valid: fresh-valid, apply-valid         a fresh survey is valid, and every command keeps a survey so; `reached-valid`: so every one that commands reach is
 --     AsWritten: as-written                   of a valid survey, applying is document 01's text, with no refusal but those that it names
 --     Named: only-named, never-other          the refusals of each command are those that document 01 names; of any survey, besides only 6 and 11
 --     Named: refusal-of-applying              the numbers of applying are 5 to 15
 --     Named: refusal-not-zero, refusal-from-five      and no refusal is taken for acceptance, nor for one of reading or writing
---     Limit: limit-told                       11 is told only at the limit, of any survey
+--     Limit: limit-told, close-never          11 is told only at the limit, of any survey; closing tells it of no valid one
 --     Once: species-stay, factors-stay, rows-stay     what is given once never changes
 --     Playing: plays-refused, plays-on, plays-end, plays-past-end     how playing goes on from a place; `enough`: how many commands are allowed makes no difference
 --     Playing: note-line, note-refused        an open line that is noted on its own

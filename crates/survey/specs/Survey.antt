@@ -62,7 +62,7 @@ fresh =
 abbrev pub speciesAt : Survey → ℕ → Species
 speciesAt s id = getD (s .species) id undeclared
 
--- the survey with another line, open or not; other rows; other species; other factors; ended
+-- the survey with other species; other factors; another line; a line opened; a row more and the line closed; ended
 abbrev pub withSpecies : Survey → List Species → Survey
 withSpecies s l =
     record { species = l; factors = s .factors; rows = s .rows; closed = s .closed; active = s .active; line = s .line; ended = s .ended }

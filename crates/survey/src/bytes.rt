@@ -1,4 +1,4 @@
-// Numbers of two, four and eight bytes, high byte first.
+// Numbers of two, four and eight bytes, high byte first, and signed ones of four in two's complement.
 ghost use mathlib.Core.Path.{_≡_};
 ghost use Prim.Native.Nat.{_+_, _≤_, _<_};
 ghost use lib.ListN.{length};
@@ -36,12 +36,10 @@ pub(crate) fn eight(s: &[u8], at: usize) -> u64
     (four(s, at) as u64) * 4_294_967_296 + (four(s, at + 4) as u64)
 }
 
-// The signed number in the four bytes from a place on.
-pub(crate) fn signed_four(s: &[u8], at: usize) -> i32
-    requires { ⌜ at + 4 ≤ length (now s) ⌝ }
-    ensures { λ r. ⌜ r ≡ signed (numberAt 4 (now (s .entry)) at) ⌝ }
+// The signed number that 32 bits stand for.
+pub fn signed_of(bits: u32) -> i32
+    ensures { λ r. ⌜ r ≡ signed bits ⌝ }
 {
-    let bits = four(s, at);
     if bits < 0x8000_0000 {
         bits as i32
     } else {
@@ -49,8 +47,16 @@ pub(crate) fn signed_four(s: &[u8], at: usize) -> i32
     }
 }
 
+// The signed number in the four bytes from a place on.
+pub(crate) fn signed_four(s: &[u8], at: usize) -> i32
+    requires { ⌜ at + 4 ≤ length (now s) ⌝ }
+    ensures { λ r. ⌜ r ≡ signed (numberAt 4 (now (s .entry)) at) ⌝ }
+{
+    signed_of(four(s, at))
+}
+
 // The 32 bits that stand for a signed number.
-pub(crate) fn bits_of(x: i32) -> u32
+pub fn bits_of(x: i32) -> u32
     ensures { λ r. ⌜ r ≡ unsigned x ⌝ }
 {
     if x < 0 {

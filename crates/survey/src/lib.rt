@@ -1,6 +1,6 @@
 // The field book's commands, the survey that they make, and the totals of a whole book. The figures of a line come from
 // the crate `biomass`, of which only the promises are used here.
-mod bytes;
+pub mod bytes;
 pub mod command;
 mod encoding;
 pub mod line;

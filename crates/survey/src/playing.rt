@@ -4,6 +4,7 @@ use super::line::Line;
 use super::line::Noted;
 use super::reading::Reading;
 use super::reading::read;
+use super::reading::read_of_line;
 use super::refusal::Refusal;
 use super::survey::Outcome;
 use super::survey::Survey;
@@ -87,7 +88,7 @@ fn noted_to(answer: Noted, next: usize) -> Noting
 fn note(book: &[u8], at: usize, line: Line) -> Noting
     ensures { λ r. ⌜ noting r ≡ note (now (book .entry)) at line ⌝ }
 {
-    match read(book, at) {
+    match read_of_line(book, at) {
         Reading::Is(command, next) => match command {
             Command::Measured { class, count } => noted_to(line.measured(class, count), next),
             Command::Height { cm, tenths } => noted_to(line.height(cm, tenths), next),

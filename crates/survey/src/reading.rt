@@ -115,6 +115,22 @@ pub fn read(book: &[u8], at: usize) -> Reading
     }
 }
 
+// What `read` answers, with the commands of an open line looked for first: nearly all commands of a long book are of these two.
+pub(crate) fn read_of_line(book: &[u8], at: usize) -> Reading
+    ensures { λ r. ⌜ reading r ≡ read (now (book .entry)) at ⌝ }
+{
+    if at < book.len() {
+        let byte = book[at];
+        if byte == 0x04 {
+            return read_measured(book, at + 1);
+        }
+        if byte == 0x05 {
+            return read_height(book, at + 1);
+        }
+    }
+    read(book, at)
+}
+
 // The place to go on from: after a command the place after it, and after a refusal the place where it was.
 pub(crate) fn place_after(at: usize, answer: Reading) -> usize
     ensures { λ r. ⌜ r ≡ placeAfter at (reading answer) ⌝ }

@@ -139,14 +139,13 @@ impl Survey {
         self.species[i]
     }
 
-    fn with_species(self, id: u8, species: Species) -> Survey
+    fn with_species(mut self, id: u8, species: Species) -> Survey
         requires { ⌜ id < 16 ⌝ }
         ensures { λ r. ⌜ r ≡ withSpecies self (set (self .species) id species) ⌝ }
     {
         let i = id as usize;
-        let mut survey = self;
-        survey.species[i] = species;
-        survey
+        self.species[i] = species;
+        self
     }
 
     fn factor_at(self, cm: u8) -> u8
@@ -157,51 +156,46 @@ impl Survey {
         self.factors[i]
     }
 
-    fn with_factor(self, cm: u8, factor: u8) -> Survey
+    fn with_factor(mut self, cm: u8, factor: u8) -> Survey
         requires { ⌜ cm < 101 ⌝ }
         ensures { λ r. ⌜ r ≡ withFactors self (set (self .factors) cm factor) ⌝ }
     {
         let i = cm as usize;
-        let mut survey = self;
-        survey.factors[i] = factor;
-        survey
+        self.factors[i] = factor;
+        self
     }
 
-    pub(crate) fn with_line(self, line: Line) -> Survey
+    pub(crate) fn with_line(mut self, line: Line) -> Survey
         ensures { λ r. ⌜ r ≡ withLine self line ⌝ }
     {
-        let mut survey = self;
-        survey.line = line;
-        survey
+        self.line = line;
+        self
     }
 
-    fn with_opened(self, line: Line) -> Survey
+    fn with_opened(mut self, line: Line) -> Survey
         ensures { λ r. ⌜ r ≡ withOpened self line ⌝ }
     {
-        let mut survey = self;
-        survey.line = line;
-        survey.active = true;
-        survey
+        self.line = line;
+        self.active = true;
+        self
     }
 
-    fn with_row(self, row: Row) -> Survey
+    fn with_row(mut self, row: Row) -> Survey
         requires { ⌜ self .closed < 32 ⌝ }
         ensures { λ r. ⌜ r ≡ withRow self row ⌝ }
     {
         let at = self.closed;
-        let mut survey = self;
-        survey.rows[at] = row;
-        survey.closed = at + 1;
-        survey.active = false;
-        survey
+        self.rows[at] = row;
+        self.closed = at + 1;
+        self.active = false;
+        self
     }
 
-    fn with_end(self) -> Survey
+    fn with_end(mut self) -> Survey
         ensures { λ r. ⌜ r ≡ withEnd self ⌝ }
     {
-        let mut survey = self;
-        survey.ended = true;
-        survey
+        self.ended = true;
+        self
     }
 
     // 01: declares a species.

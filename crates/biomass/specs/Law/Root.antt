@@ -1,4 +1,4 @@
--- Laws of the root: facts of its table, and its ends' bounds.
+-- Laws of the root: facts of its table, computed row by row, and the bounds of its ends that follow (Law.Ends).
 use Prim.Native.Nat.{ℕ, zero, suc, _≤_, _<_, _^_}
 use native.Mathlib.Omega.{arith}
 use mathlib.Core.Path.{refl}

@@ -126,6 +126,13 @@ pos-minus {n} {b} h = same (sub (parts (pos b)) (parts (pos n))) (parts (pos (b 
 pub pos-minus-more : {a b : ℕ} → a < b → pos a -ℤ pos b ≡ negsuc (b - suc a)
 pos-minus-more {a} {b} h = same (sub (parts (pos a)) (parts (pos b))) (parts (negsuc (b - suc a))) (omega arith)
 
+-- −1 − z swaps n and −(n + 1)
+pub turn-natural : (n : ℕ) → negsuc 0 -ℤ pos n ≡ negsuc n
+turn-natural n = same (sub (parts (negsuc 0)) (parts (pos n))) (parts (negsuc n)) (omega arith)
+
+pub turn-negative : (n : ℕ) → negsuc 0 -ℤ negsuc n ≡ pos n
+turn-negative n = same (sub (parts (negsuc 0)) (parts (negsuc n))) (parts (pos n)) (omega arith)
+
 -- ---- sizes
 
 size : {z : ℤ} {p q : ℕ} → Diff z p q → natAbs z ≤ p + q

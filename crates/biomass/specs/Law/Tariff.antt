@@ -1,4 +1,5 @@
--- Laws of the tariff.
+-- Laws of the tariff: which report the tests of a single tariff's range make, and that a tariff which is given is 1 to 50, a line's too, since it is
+-- the mean of numbers from 1 to 50.
 use Prim.Native.Nat.{ℕ, _*_, _/_}
 use native.Mathlib.Nat.{le-of-suc-le-suc, le-div-iff-mul-le, div-lt-iff-lt-mul, one-mul}
 use mathlib.Core.Path.{_≡_, refl, sym, subst}

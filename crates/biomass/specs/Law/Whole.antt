@@ -1,7 +1,7 @@
 -- Laws of `greatest`, of `wholeRoot` and of `div`.
 -- `greatest` is the one number that passes with none above it passing. A root is the one r with r ^ k ≤ x < (r + 1) ^ k, because powers
 -- rise with their base. `div` never goes above, and leaves less than one divisor, at either sign.
-use mathlib.Core.Path.{_≡_, refl, ap, _∙_}
+use mathlib.Core.Path.{_≡_, refl}
 use mathlib.Core.Bool.{Bool, true, false, cond}
 use mathlib.Core.Logic.{_⊎_, inl, inr}
 use Prim.Native.Nat.{ℕ, zero, suc, _+_, _*_, _/_, _^_, _≤_, _<_, zero-le, suc-le-suc}
@@ -68,7 +68,7 @@ root-is k x r h le lt =
     (λ n above up. lt-leb (n ^ k) x (lt-of-lt-of-le lt (pow-le-pow-left (omega arith) k)))
 
 pub pow-two : (n : ℕ) → n ^ 2 ≡ n * n
-pow-two n = pow-suc n 1 ∙ ap (λ (k : ℕ). k * n) (pow-suc n 0 ∙ ap (λ (k : ℕ). k * n) (pow-zero n) ∙ one-mul n)
+pow-two n = rw (pow-suc n 1, pow-suc n 0, pow-zero, one-mul)
 
 -- the square root, between two squares
 pub square-root-is : (x r : ℕ) → r * r ≤ x → x < (r + 1) * (r + 1) → wholeRoot 2 x ≡ r

@@ -1,10 +1,11 @@
 -- Laws of the checks that a command goes through: what a figure that is given says of each test on the way; which numbers are refused; when two
 -- reports with the same checks are the same; and what the tests of two or more parts say.
-use Prim.Native.Nat.{ℕ, zero, suc, _≤_, _<_, zero-le}
+use Prim.Native.Nat.{ℕ, _≤_, _<_, zero-le}
+use native.Mathlib.Decide.{ℕ-discrete}
 use mathlib.Core.Path.{_≡_, _∙_, refl, sym, ap, ap₂, subst}
 use mathlib.Core.Bool.{Bool, true, false, cond}
-use lib.Dec.{ltb, eqb, eqb·zero-suc, eqb·suc-zero, eqb·suc-suc}
-use borrow.Author.Tests.{ltb-true, lt-ltb}
+use lib.Dec.{ltb, eqb}
+use borrow.Author.Tests.{ltb-true, lt-ltb, ne-eqb}
 use Rattle.biomass.specs.Whole.{inside}
 use Rattle.biomass.specs.Report.{Report, refused, gives, unless, _then_}
 use Rattle.biomass.specs.Law.Report.{Inside, inside-true, true-inside, both-true}
@@ -121,10 +122,8 @@ species-in-range id s e =
     )
 
 eqb-symmetric : (a b : ℕ) → eqb a b ≡ eqb b a
-eqb-symmetric zero zero = refl
-eqb-symmetric zero (suc b) = eqb·zero-suc b ∙ sym (eqb·suc-zero b)
-eqb-symmetric (suc a) zero = eqb·suc-zero a ∙ sym (eqb·zero-suc a)
-eqb-symmetric (suc a) (suc b) = eqb·suc-suc a b ∙ eqb-symmetric a b ∙ sym (eqb·suc-suc b a)
+eqb-symmetric a b =
+    elim (ℕ-discrete a b) [ yes e ↦ ap₂ eqb e (sym e) | no other ↦ ne-eqb a b other ∙ sym (ne-eqb b a (λ e. other (sym e))) ]
 
 -- a line is that of one stratum and one species, whichever of two is asked for the other
 pub is-line-symmetric : (r l : Row) → isLine (r .stratum) (r .species) l ≡ isLine (l .stratum) (l .species) r

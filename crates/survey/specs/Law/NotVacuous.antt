@@ -13,7 +13,7 @@ use lib.IntN.{pos}
 use Rattle.biomass.specs.Ends.{between}
 use Rattle.biomass.specs.Crown.{w}
 use Rattle.biomass.specs.Root.{y}
-use Rattle.biomass.specs.Fraction.{Fraction, whole, _⊗_, _over_, _≼_}
+use Rattle.biomass.specs.Fraction.{Fraction, whole, _over_, _≼_}
 use Rattle.biomass.specs.Exact.{NotBelow, NotAbove}
 use Rattle.biomass.specs.Project.{projectOf}
 use Rattle.biomass.specs.Law.Signed.{pos-le}

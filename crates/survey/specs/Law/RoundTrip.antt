@@ -67,7 +67,7 @@ encode-bytes c f = each-all (each-encoded c f)
 -- ---- an encoded command is read
 
 -- the command's byte, and enough bytes for its operands
-read-by : (s : List ℕ) (at b : ℕ) → at < length s → byte s at ≡ b → read s at ≡ commandFrom b s (at + 1)
+pub read-by : (s : List ℕ) (at b : ℕ) → at < length s → byte s at ≡ b → read s at ≡ commandFrom b s (at + 1)
 unfolding read
 read-by s at b inside e = rw (lt-ltb at (length s) inside, e)
 

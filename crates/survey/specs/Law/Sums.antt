@@ -1,4 +1,4 @@
--- The sums of rows, as the code makes them: one row after the other, none past 64 bits.
+-- The sums of rows, as the code makes them: one row after the other, none past 64 bits, since no row is above the greatest one and 32 of those fit.
 use Prim.Native.Nat.{ℕ, zero, suc, _+_, _*_, _≤_, _<_, zero-le}
 use native.Mathlib.Omega.{arith}
 use mathlib.Core.Path.{_≡_}

@@ -1,5 +1,4 @@
 -- `biomass::crown::crown_in_range` meets its contract: the row is the definition's (`crown_row`), and so is the form that the diameter picks.
-use borrow.Author.Needs.{needs}
 use Prim.Native.Nat.{ℕ, _<_}
 use native.Mathlib.Omega.{arith}
 use mathlib.Core.Path.{_∙_, ap₂}
@@ -19,7 +18,7 @@ crown-row-requires : tie.Need-crown-row-requires
 crown-row-requires c κs = c .pre .0 .most
 
 array-copy-out-on-curve : tie.Need-array-copy-out-on-curve
-array-copy-out-on-curve c = search needs
+array-copy-out-on-curve c = omega arith
 
 cast-on-curve : tie.Need-cast-on-curve
 cast-on-curve c =
@@ -46,10 +45,10 @@ returns c =
     ∙ rw (le-leb (begin .args .d) 500 (omega arith))
 
 array-copy-out-on-line : tie.Need-array-copy-out-on-line
-array-copy-out-on-line c = search needs
+array-copy-out-on-line c = omega arith
 
 array-copy-out-on-line-2 : tie.Need-array-copy-out-on-line-2
-array-copy-out-on-line-2 c = search needs
+array-copy-out-on-line-2 c = omega arith
 
 -- above 500 the line has risen above 0
 line : (begin : tie.Start) → 500 < begin .args .d → Rising (a (begin .args .group)) (b (begin .args .group)) (begin .args .d)

@@ -72,15 +72,12 @@ loop-less-2 c = omega arith
 loop-again-2 : tie.Need-loop-again-2 Inv-loop μ-loop
 loop-again-2 c = omega arith
 
--- the next diameter after `low` is `above`
-next : (n S low above : ℕ) → above ≡ low + 1 → 400 * S < square (2 * above - 1) * n → 400 * S < square (2 * (low + 1) - 1) * n
-next n S low above e h = rw e at h
-
 returns : tie.Need-returns Inv-loop μ-loop
 returns c =
     let a = c .before .before .args in
     let at = c .before .loop in
-    sym (mean-between (a .n) (a .squares) (at .low) (omega arith) (at .inv .3) (next (a .n) (a .squares) (at .low) (at .above) (omega arith) (at .inv .4)))
+    let next : at .above ≡ at .low + 1 = omega arith in
+    sym (mean-between (a .n) (a .squares) (at .low) (omega arith) (at .inv .3) (rw next at (at .inv .4)))
 
 pub mean-of-spec : {M : Type 1} → statement M
 mean-of-spec =

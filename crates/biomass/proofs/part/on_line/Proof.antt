@@ -1,6 +1,5 @@
 -- `biomass::part::on_line` meets its contract: the start and the rise are at most 10^9 in size and d at most 1000, so the sum is far from the ends of 64 bits; and it
 -- is not negative (`Rising`), so that its cast to an unsigned number is itself.
-use borrow.Author.Needs.{needs}
 use Prim.Native.Nat.{_+_, _*_, _^_, _≤_}
 use native.Mathlib.Omega.{arith}
 use mathlib.Core.Path.{_≡_, _∙_, subst}
@@ -34,7 +33,7 @@ mul-tenths : tie.Need-mul-tenths
 mul-tenths c = fits (ten-start c) tt
 
 cast-tenths : tie.Need-cast-tenths
-cast-tenths c = search needs
+cast-tenths c = omega arith
 
 mul-tenths-2 : tie.Need-mul-tenths-2
 mul-tenths-2 c = fits (risen c) tt

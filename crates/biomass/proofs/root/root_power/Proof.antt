@@ -1,8 +1,8 @@
 -- `biomass::root::root_power` meets its contract: the fifth power of at most 300, times 10^5, is within 64 bits, and its square root is y.
-use Prim.Native.Nat.{ℕ, _*_, _^_, _≤_, _<_}
+use Prim.Native.Nat.{ℕ, _*_, _^_, _≤_}
 use native.Mathlib.Nat.{mul-le-mul, mul-le-mul-left, pow-suc, lt-of-le-of-lt}
-use mathlib.Core.Path.{_≡_, _∙_, sym, ap}
-use lib.Dec.{T, ltb, ltb→lt}
+use mathlib.Core.Path.{_≡_, _∙_, ap}
+use lib.Dec.{lit<}
 use Rattle.biomass.specs.Whole.{wholeRoot}
 use Rattle.biomass.specs.Root.{y}
 use Rattle.biomass.specs.Law.Whole.{pow-two}
@@ -22,27 +22,23 @@ module _ {d : ℕ} (h : d ≤ 300) where
   five : d * d * d * d * d ≤ 300 * 300 * 300 * 300 * 300
   five = mul-le-mul four h
 
-fits : {x most : ℕ} → x ≤ most → T (ltb most (2 ^ 64)) → x < 2 ^ 64
-fits {most} h t = lt-of-le-of-lt h (ltb→lt most (2 ^ 64) t)
-
 fifth : (d : ℕ) → d * d * d * d * d ≡ d ^ 5
-fifth d =
-    sym (pow-suc d 4 ∙ ap (λ (x : ℕ). x * d) (pow-suc d 3 ∙ ap (λ (x : ℕ). x * d) (pow-suc d 2 ∙ ap (λ (x : ℕ). x * d) (pow-two d))))
+fifth d = rw (pow-suc d 4, pow-suc d 3, pow-suc d 2, pow-two)
 
 mul-square-root : tie.Need-mul-square-root
-mul-square-root c = record { fits = fits (two (c .pre)) tt }
+mul-square-root c = record { fits = lt-of-le-of-lt (two (c .pre)) (lit< tt) }
 
 mul-square-root-2 : tie.Need-mul-square-root-2
-mul-square-root-2 c = record { fits = fits (three (c .pre)) tt }
+mul-square-root-2 c = record { fits = lt-of-le-of-lt (three (c .pre)) (lit< tt) }
 
 mul-square-root-3 : tie.Need-mul-square-root-3
-mul-square-root-3 c = record { fits = fits (four (c .pre)) tt }
+mul-square-root-3 c = record { fits = lt-of-le-of-lt (four (c .pre)) (lit< tt) }
 
 mul-square-root-4 : tie.Need-mul-square-root-4
-mul-square-root-4 c = record { fits = fits (five (c .pre)) tt }
+mul-square-root-4 c = record { fits = lt-of-le-of-lt (five (c .pre)) (lit< tt) }
 
 mul-square-root-5 : tie.Need-mul-square-root-5
-mul-square-root-5 c = record { fits = fits (mul-le-mul-left 100000 (five (c .pre))) tt }
+mul-square-root-5 c = record { fits = lt-of-le-of-lt (mul-le-mul-left 100000 (five (c .pre))) (lit< tt) }
 
 square-root-requires : tie.Need-square-root-requires
 square-root-requires c κs = tt

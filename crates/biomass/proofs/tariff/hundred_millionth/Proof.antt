@@ -1,9 +1,8 @@
 -- `biomass::tariff::hundred_millionth` meets its contract. A negative number −(a + 1) is taken to a, divided, and taken back to −(q + 1); any other is divided
 -- as it stands. Each number on the way is no larger than the one that came in, so it fits, and the machine reads it back as it is.
 use Prim.Native.Nat.{ℕ, _/_, _^_, _<_}
-use native.Mathlib.Omega.{arith}
 use native.Mathlib.Nat.{div-le-self, lt-of-le-of-lt, not-suc-le-zero}
-use mathlib.Core.Bool.{Bool, true, false, false≢true}
+use mathlib.Core.Bool.{true, false, false≢true}
 use mathlib.Core.Path.{_≡_, refl, _∙_, ap, sym}
 use lib.Dec.{lit<}
 use borrow.Author.Tests.{ltb-true}
@@ -13,7 +12,7 @@ use mir.Syntax.{w64}
 use mir.Val.{SFits}
 use mir.Facts.{toZ-ofZ}
 use Rattle.biomass.specs.Whole.{_div_}
-use Rattle.biomass.specs.Law.Signed.{same, sub, parts}
+use Rattle.biomass.specs.Law.Signed.{turn-natural, turn-negative}
 use Rattle.biomass.proofs.Small.{local}
 use Rattle.biomass.proofs.tariff.hundred_millionth.Statement.{statement}
 use Rattle.biomass.proofs.tariff.hundred_millionth.Tie as tie
@@ -31,10 +30,10 @@ kept e = record { is = toZ-ofZ (fits e) ∙ e .is; small = e .small }
 
 -- −1 − X swaps −(a + 1) and a
 up : {X : ℤ} {a : ℕ} → Is X (negsuc a) → Is (negsuc 0 -ℤ X) (pos a)
-up {a} e = record { is = ap (λ z. negsuc 0 -ℤ z) (e .is) ∙ same (sub (parts (negsuc 0)) (parts (negsuc a))) (parts (pos a)) (omega arith); small = e .small }
+up {a} e = record { is = ap (λ z. negsuc 0 -ℤ z) (e .is) ∙ turn-negative a; small = e .small }
 
 down : {X : ℤ} {a : ℕ} → Is X (pos a) → Is (negsuc 0 -ℤ X) (negsuc a)
-down {a} e = record { is = ap (λ z. negsuc 0 -ℤ z) (e .is) ∙ same (sub (parts (negsuc 0)) (parts (pos a))) (parts (negsuc a)) (omega arith); small = e .small }
+down {a} e = record { is = ap (λ z. negsuc 0 -ℤ z) (e .is) ∙ turn-natural a; small = e .small }
 
 divided : {X : ℤ} {a : ℕ} → Is X (pos a) → Is (quotZ X (pos 100000000)) (pos (a / 100000000))
 divided {a} e = record { is = ap (λ z. quotZ z (pos 100000000)) (e .is); small = lt-of-le-of-lt (div-le-self a 100000000) (e .small) }
@@ -46,10 +45,6 @@ record Below (z : ℤ) : Type 0 where
   first : Is (negsuc 0 -ℤ local z) (pos a)
   quotient : Is (quotZ (local (negsuc 0 -ℤ local z)) (pos 100000000)) (pos (a / 100000000))
   last : Is (negsuc 0 -ℤ local (quotZ (local (negsuc 0 -ℤ local z)) (pos 100000000))) (negsuc (a / 100000000))
-
--- what the machine's test that a number is below 0 says of it
-read : {z : ℤ} {t : Bool} → SFits w64 z → ltZ (local z) (pos 0) ≡ t → ltZ z (pos 0) ≡ t
-read f e = ap (λ x. ltZ x (pos 0)) (sym (toZ-ofZ f)) ∙ e
 
 below : (z : ℤ) → SFits w64 z → ltZ z (pos 0) ≡ true → Below z
 below (pos n) f t = absurd (not-suc-le-zero (ltb-true n 0 t))
@@ -63,11 +58,12 @@ above : (z : ℤ) → SFits w64 z → ltZ z (pos 0) ≡ false → Is (quotZ (loc
 above (pos n) f t = divided (record { is = toZ-ofZ f; small = f .sfits })
 above (negsuc a) f t = absurd (false≢true (sym t))
 
+-- the machine's test that a number is below 0 is one on the number itself
 negative : (c : tie.Then1) → Below (c .before .args .sum)
-negative c = below (c .before .args .sum) (c .before .fits .sum) (read (c .before .fits .sum) (c .if1 .taken))
+negative c = let f = c .before .fits .sum in below (c .before .args .sum) f (rw (toZ-ofZ f) at (c .if1 .taken))
 
 positive : (c : tie.Else1) → Is (quotZ (local (c .before .args .sum)) (pos 100000000)) (c .before .args .sum div 100000000)
-positive c = above (c .before .args .sum) (c .before .fits .sum) (read (c .before .fits .sum) (c .if1 .left))
+positive c = let f = c .before .fits .sum in above (c .before .args .sum) f (rw (toZ-ofZ f) at (c .if1 .left))
 
 sub-result : tie.Need-sub-result
 sub-result c = fits (negative c .first)

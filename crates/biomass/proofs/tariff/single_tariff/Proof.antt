@@ -1,11 +1,8 @@
 -- `biomass::tariff::single_tariff` meets its contract: each test of the code is the definition's, and past them the three routines give the definition's three steps.
-use Prim.Native.Nat.{ℕ}
 use mathlib.Core.Path.{_≡_, _∙_, ap}
 use lib.IntN.{ℤ}
-use mir.Syntax.{w32}
-use mir.Val.{SFits, toZ, ofZ}
 use mir.Facts.{toZ-ofZ}
-use Rattle.biomass.proofs.Small.{read-back}
+use Rattle.biomass.proofs.Small.{local, read-back}
 use Rattle.biomass.specs.Whole.{_div_}
 use Rattle.biomass.specs.Tariff.{tariffSum, singleTariff, fromOneToFifty}
 use Rattle.biomass.specs.Law.Report.{refuses, goes-on, in-range}
@@ -40,12 +37,14 @@ hundred-millionth-requires c κs = tt
 one-to-fifty-requires : tie.Need-one-to-fifty-requires
 one-to-fifty-requires c κs = tt
 
-abbrev back : ℤ → ℤ
-back z = toZ w32 (ofZ w32 z)
-
--- the four constants that are handed on are read back as they are
-constants : {c1 c2 c3 c4 : ℤ} (D h : ℕ) → SFits w32 c1 → SFits w32 c2 → SFits w32 c3 → SFits w32 c4 → tariffSum (back c1) (back c2) (back c3) (back c4) D h ≡ tariffSum c1 c2 c3 c4 D h
-constants D h f1 f2 f3 f4 = simp (toZ-ofZ f1, toZ-ofZ f2, toZ-ofZ f3, toZ-ofZ f4)
+-- the sum is the definition's: the four constants that are handed on are read back as they are
+sum-is : (c : tie.After-tariff-sum) →
+    let a = c .before .before .before .before .before .args in
+    local (c .tariff-sum .result) ≡ tariffSum (a .c1) (a .c2) (a .c3) (a .c4) (a .cm) (a .tenths)
+sum-is c =
+    let fits = c .before .before .before .before .before .fits in
+    read-back (c .tariff-sum .ok)
+    ∙ simp (toZ-ofZ (fits .c1), toZ-ofZ (fits .c2), toZ-ofZ (fits .c3), toZ-ofZ (fits .c4)) at (c .tariff-sum .ensures)
 
 returns-3 : tie.Need-returns-3
 unfolding singleTariff
@@ -53,9 +52,7 @@ returns-3 c =
     let sum = c .before .before in
     let second = sum .before in
     let first = second .before .before in
-    let start = first .before .before in
-    let from-sum = read-back (sum .tariff-sum .ok) ∙ sum .tariff-sum .ensures ∙ constants (start .args .cm) (start .args .tenths) (start .fits .c1) (start .fits .c2) (start .fits .c3) (start .fits .c4) in
-    let from-quotient = read-back (c .before .hundred-millionth .ok) ∙ c .before .hundred-millionth .ensures ∙ ap (λ (z : ℤ). z div 100000000) from-sum in
+    let from-quotient = read-back (c .before .hundred-millionth .ok) ∙ c .before .hundred-millionth .ensures ∙ ap (λ (z : ℤ). z div 100000000) (sum-is sum) in
     goes-on _ _ _ (first .before .within .ensures) (first .if1 .left)
     (goes-on _ _ _ (second .before .within2 .ensures) (second .if2 .left) (c .one-to-fifty .ensures ∙ ap fromOneToFifty from-quotient))
 

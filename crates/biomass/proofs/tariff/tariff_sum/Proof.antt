@@ -1,17 +1,17 @@
 -- `biomass::tariff::tariff_sum` meets its contract: the constants are below 2^31 in size, the diameter is at most 100 and the height at most 600, so every term and
 -- sum is far from the ends of 64 bits, and what the machine reads back is the whole number itself.
-use borrow.Author.Needs.{needs}
+use native.Mathlib.Omega.{arith}
 use Prim.Native.Nat.{_+_, _*_, _^_}
 use lib.IntN.{ℤ, pos, _+ℤ_, _*ℤ_}
-use mir.Syntax.{w32, w64}
-use mir.Val.{toZ, ofZ}
-use Rattle.biomass.proofs.Small.{Small, local, fits, kept, plus, times, numeral, word, natural}
+use mir.Syntax.{w64}
+use mir.Val.{toZ}
+use Rattle.biomass.proofs.Small.{Small, local, local32, fits, kept, plus, times, numeral, word, natural}
 use Rattle.biomass.proofs.tariff.tariff_sum.Statement.{statement}
 use Rattle.biomass.proofs.tariff.tariff_sum.Tie as tie
 
 -- a constant cast to 64 bits, in a local
 abbrev wide : ℤ → ℤ
-wide x = local (toZ w32 (ofZ w32 x))
+wide x = local (local32 x)
 
 -- the four terms, as the code works them
 abbrev X1 : tie.Start → ℤ
@@ -54,17 +54,26 @@ module _ (c : tie.Start) where
   two : Small (local (X1 c) +ℤ local (X2 c)) (pos 10 *ℤ c .args .c1 +ℤ c .args .c2 *ℤ pos (c .args .tenths)) (10 * 2 ^ 31 + 2 ^ 31 * 600)
   two = plus (kept term-1 tt) (kept term-2 tt)
 
-  three : Small (local (local (X1 c) +ℤ local (X2 c)) +ℤ local (X3 c)) (pos 10 *ℤ c .args .c1 +ℤ c .args .c2 *ℤ pos (c .args .tenths) +ℤ pos 10 *ℤ c .args .c3 *ℤ pos (c .args .cm)) (10 * 2 ^ 31 + 2 ^ 31 * 600 + 10 * 2 ^ 31 * 100)
+  three :
+      Small
+      (local (local (X1 c) +ℤ local (X2 c)) +ℤ local (X3 c))
+      (pos 10 *ℤ c .args .c1 +ℤ c .args .c2 *ℤ pos (c .args .tenths) +ℤ pos 10 *ℤ c .args .c3 *ℤ pos (c .args .cm))
+      (10 * 2 ^ 31 + 2 ^ 31 * 600 + 10 * 2 ^ 31 * 100)
   three = plus (kept two tt) (kept term-3 tt)
 
-  four : Small (local (local (local (X1 c) +ℤ local (X2 c)) +ℤ local (X3 c)) +ℤ local (X4 c)) (pos 10 *ℤ c .args .c1 +ℤ c .args .c2 *ℤ pos (c .args .tenths) +ℤ pos 10 *ℤ c .args .c3 *ℤ pos (c .args .cm) +ℤ c .args .c4 *ℤ pos (c .args .cm) *ℤ pos (c .args .tenths)) (10 * 2 ^ 31 + 2 ^ 31 * 600 + 10 * 2 ^ 31 * 100 + 2 ^ 31 * 100 * 600)
+  four :
+      Small
+      (local (local (local (X1 c) +ℤ local (X2 c)) +ℤ local (X3 c)) +ℤ local (X4 c))
+      (pos 10 *ℤ c .args .c1 +ℤ c .args .c2 *ℤ pos (c .args .tenths) +ℤ pos 10 *ℤ c .args .c3 *ℤ pos (c .args .cm)
+      +ℤ c .args .c4 *ℤ pos (c .args .cm) *ℤ pos (c .args .tenths))
+      (10 * 2 ^ 31 + 2 ^ 31 * 600 + 10 * 2 ^ 31 * 100 + 2 ^ 31 * 100 * 600)
   four = plus (kept three tt) (kept term-4 tt)
 
 cast-wide : tie.Need-cast-wide
-cast-wide c = search needs
+cast-wide c = omega arith
 
 cast-high : tie.Need-cast-high
-cast-high c = search needs
+cast-high c = omega arith
 
 cast-result : tie.Need-cast-result
 cast-result c = fits (word (c .fits .c1)) tt

@@ -44,14 +44,11 @@ loop-less-2 c = omega arith
 loop-again-2 : tie.Need-loop-again-2 Inv-loop μ-loop
 loop-again-2 c = omega arith
 
--- the next number after `low` is `above`
-below : (x low above : ℕ) → above ≡ low + 1 → x < above * above → x < (low + 1) * (low + 1)
-below x low above e h = rw e at h
-
 returns : tie.Need-returns Inv-loop μ-loop
 returns c =
     let at = c .before .loop in
-    sym (square-root-is (c .before .before .args .x) (at .low) (at .inv .2) (below _ (at .low) (at .above) (omega arith) (at .inv .3)))
+    let next : at .above ≡ at .low + 1 = omega arith in
+    sym (square-root-is (c .before .before .args .x) (at .low) (at .inv .2) (rw next at (at .inv .3)))
 
 pub square-root-spec : {M : Type 1} → statement M
 square-root-spec =

@@ -17,8 +17,8 @@ use Rattle.survey.proofs.command.Command.{the-type}
 use Rattle.survey.proofs.playing.note.Statement.{statement}
 use Rattle.survey.proofs.playing.note.Tie as tie
 
-read-requires : tie.Need-read-requires
-read-requires c κs = tt
+read-of-line-requires : tie.Need-read-of-line-requires
+read-of-line-requires c κs = tt
 
 enum-known-command : tie.Need-enum-known-command
 enum-known-command c = c .match .keys1
@@ -70,7 +70,7 @@ unfolding note
 returns c =
     let known = c .before .before .before in
     let taken = known .before .before .before in
-    follows _ _ (sym (taken .before .before .read .ensures .0) ∙ ap reading (taken .command .given .1))
+    follows _ _ (sym (taken .before .before .read-of-line .ensures) ∙ ap reading (taken .command .given .1))
     (c .noted-to .ensures ∙ ap (notedTo _) (c .before .measured .ensures) ∙ by-case _ _ (known .command2 .given .1))
 
 returns-2 : tie.Need-returns-2
@@ -78,7 +78,7 @@ unfolding note
 returns-2 c =
     let known = c .before .before .before in
     let taken = known .before .before .before in
-    follows _ _ (sym (taken .before .before .read .ensures .0) ∙ ap reading (taken .command .given .1))
+    follows _ _ (sym (taken .before .before .read-of-line .ensures) ∙ ap reading (taken .command .given .1))
     (c .noted-to2 .ensures ∙ ap (notedTo _) (c .before .height .ensures) ∙ by-case _ _ (known .command3 .given .1))
 
 returns-3 : tie.Need-returns-3
@@ -87,17 +87,17 @@ returns-3 c =
     let known = c .before .before in
     let start = known .before .before .before .before in
     let k = known .command .given .0 in
-    follows _ _ (sym (known .before .before .read .ensures .0) ∙ ap reading (known .command .given .1)) (others (k .0) (k .1 .0) (start .args .line) (c .match2 .keys3))
+    follows _ _ (sym (known .before .before .read-of-line .ensures) ∙ ap reading (known .command .given .1)) (others (k .0) (k .1 .0) (start .args .line) (c .match2 .keys3))
 
 returns-4 : tie.Need-returns-4
 unfolding note
-returns-4 c = stops _ _ (sym (c .before .before .before .read .ensures .0) ∙ ap reading (c .before .why .given .1))
+returns-4 c = stops _ _ (sym (c .before .before .before .read-of-line .ensures) ∙ ap reading (c .before .why .given .1))
 
 pub note-spec : {M : Type 1} → statement M
 note-spec =
     tie.close
     (tie.spec
-    read-requires
+    read-of-line-requires
     enum-known-command
     enum-known-command-2
     measured-requires

@@ -5,7 +5,6 @@ use mathlib.Core.Path.{_≡_, _∙_, refl, ap}
 use mathlib.Core.List.{List}
 use lib.ListN.{length, take}
 use lib.Seq.{paste, length-take-le}
-use borrow.Author.Needs.{needs}
 use Rattle.survey.specs.Writing.{laidAt}
 use Rattle.survey.specs.Encoded.{held}
 use Rattle.survey.specs.Sheet.{rowBytes, sheetBytes}
@@ -39,7 +38,7 @@ as-long : (c : tie.At-loop Inv-loop μ-loop) → length (c .loop .sheet) ≡ len
 as-long c =
     let a = c .before .before .args in
     let most : c .loop .i ≤ 32 = omega arith in
-    let rows : c .loop .i ≤ length (a .t2) = search needs in
+    let rows : c .loop .i ≤ length (a .t2) = omega arith in
     ap length (c .loop .inv .1) ∙ laid-length (a .sheet .now) (take (c .loop .i) (a .t2)) (omega (arith, length-take-le (c .loop .i) (a .t2) rows))
 
 mul-lay : tie.Need-mul-lay Inv-loop μ-loop
@@ -68,7 +67,7 @@ loop-again c =
     let l = e .before .before .before in
     let a = l .before .before .args in
     let i = l .loop .i in
-    let inside : i < length (a .t2) = search needs in
+    let inside : i < length (a .t2) = omega arith in
     let now = row-laid (l .loop .sheet) (25 * i) _ (e .encode .result) (e .encode .ensures) in
     (omega arith, c .before .before .lay .ensures ∙ now ∙ rw (l .loop .inv .1) (laid-one-more (a .sheet .now) (a .t2) i _ inside))
 

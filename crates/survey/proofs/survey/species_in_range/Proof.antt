@@ -1,6 +1,6 @@
 -- `survey::survey::species_in_range` meets its contract: its tests are the definition's.
+use native.Mathlib.Omega.{arith}
 use mathlib.Core.Path.{_∙_, sym}
-use borrow.Author.Needs.{needs}
 use Rattle.survey.proofs.Check.{up-to, above}
 use Rattle.survey.proofs.survey.species_in_range.Statement.{statement}
 use Rattle.survey.proofs.survey.species_in_range.Tie as tie
@@ -20,7 +20,7 @@ returns-3 c =
     )
 
 cast-within : tie.Need-cast-within
-cast-within c = search needs
+cast-within c = omega arith
 
 within-requires : tie.Need-within-requires
 within-requires c κs = tt

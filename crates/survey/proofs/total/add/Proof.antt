@@ -5,7 +5,6 @@ use native.Mathlib.Numerals.{add-one}
 use mathlib.Core.Path.{_≡_, _∙_, refl, sym, ap, ap₂}
 use lib.ListN.{length, getD, take}
 use lib.Seq.{length-take-le}
-use borrow.Author.Needs.{needs}
 use Rattle.biomass.specs.Ends.{between}
 use Rattle.survey.specs.Total.{sumOf, treesOf, lowOf, highOf}
 use Rattle.survey.specs.Law.Sums.{first-small, sums-small, sum-one-more}
@@ -41,7 +40,7 @@ row-of c =
 
 -- which is one of the 32
 kept : (c : tie.In-loop Inv-loop μ-loop) → c .before .loop .i < length (c .before .before .args .t1)
-kept c = let room : c .before .loop .i < 32 = omega arith in search needs
+kept c = let room : c .before .loop .i < 32 = omega arith in omega arith
 
 -- the sum of the first rows grows by its figure
 grown : (c : tie.In-loop Inv-loop μ-loop) (figure : Row → ℕ) {sum : ℕ} → sum ≡ sumOf figure (take (c .before .loop .i) (c .before .before .args .t1))

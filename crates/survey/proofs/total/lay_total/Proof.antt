@@ -4,7 +4,6 @@ use native.Mathlib.Omega.{arith}
 use mathlib.Core.Path.{_≡_, _∙_, sym, ap, ap₂}
 use lib.ListN.{length, take}
 use lib.Seq.{length-take-le}
-use borrow.Author.Needs.{needs}
 use Rattle.biomass.specs.Report.{carbon, gives}
 use Rattle.biomass.specs.Project.{projectOf, project}
 use Rattle.biomass.specs.Law.Gives.{never, figure-is}
@@ -18,7 +17,7 @@ use Rattle.survey.proofs.total.lay_total.Tie as tie
 
 -- as many rows as are asked for
 number-is : (p : tie.Start) → length (take (p .args .closed) (p .args .rows)) ≡ p .args .closed
-number-is p = let kept : p .args .closed ≤ length (p .args .rows) = search needs in length-take-le (p .args .closed) (p .args .rows) kept
+number-is p = let kept : p .args .closed ≤ length (p .args .rows) = omega arith in length-take-le (p .args .closed) (p .args .rows) kept
 
 add-requires : tie.Need-add-requires
 add-requires c κs = (c .before .pre .0, c .before .pre .1)

@@ -34,13 +34,12 @@ asked : (p : tie.After-single-tariff) →
     count (p .single-tariff .result) ≡ tariffOf (given .self .species) (given .cm) (given .tenths)
 asked p =
     let s = p .before .before .before .before .before .before .args .self .species in
-    p .single-tariff .ensures
-    ∙ simp (
+    simp (
       read-back (s .c1) (p .before .before .before .before .struct-told .given .1 .1 .1 .0 .1),
       read-back (s .c2) (p .before .before .before .struct-told2 .given .1 .1 .1 .1 .0 .1),
       read-back (s .c3) (p .before .before .struct-told3 .given .1 .1 .1 .1 .1 .0 .1),
       read-back (s .c4) (p .before .struct-told4 .given .1 .1 .1 .1 .1 .1 .0 .1),
-    )
+    ) at (p .single-tariff .ensures)
 
 returns : tie.Need-returns
 unfolding height

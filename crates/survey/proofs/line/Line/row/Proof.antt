@@ -2,7 +2,7 @@
 -- 1,000 tenths of a cm, so that the table of factors has a place for it.
 use Prim.Native.Nat.{ℕ, _/_}
 use native.Mathlib.Omega.{arith}
-use mathlib.Core.Path.{_≡_, _∙_, refl, sym, ap}
+use mathlib.Core.Path.{_≡_, _∙_, sym, ap}
 use mathlib.Core.Bool.{Bool, cond}
 use mathlib.Core.List.{List}
 use borrow.Author.Needs.{needs}
@@ -186,9 +186,7 @@ worked-requires c κs =
 
 returns-8 : tie.Need-returns-8
 unfolding lineRow
-returns-8 c =
-    let last = c .before .before .before .before .before in
-    c .worked .ensures ∙ past-number last _ (follows _ _ (gave-tariff (c .before)) refl)
+returns-8 c = past-number (c .before .before .before .before .before) _ (follows _ _ (gave-tariff (c .before)) (c .worked .ensures))
 
 pub row-spec : {M : Type 1} → statement M
 row-spec =

@@ -1,7 +1,6 @@
 -- `survey::survey::Survey::has_row` meets its contract. The loop's invariant: no row before i is the line's, so that the answer is that of the rows from i on.
-use Prim.Native.Nat.{ℕ, _+_, _-_, _≤_, _<_}
-use native.Mathlib.Nat.{le-trans, le-of-eq, min-le-left, min-le-right, le-min}
-use mathlib.Core.Path.{_≡_, _∙_, refl, sym, ap, subst}
+use Prim.Native.Nat.{ℕ, _+_, _-_, _≤_, _<_, min}
+use mathlib.Core.Path.{_≡_, _∙_, refl, sym, ap}
 use mathlib.Core.Bool.{Bool, true, false, cond}
 use native.Mathlib.Omega.{arith}
 use native.Mathlib.Numerals.{add-one}
@@ -24,20 +23,14 @@ abbrev μ-loop : tie.MeasureT-loop
 μ-loop stratum id self i₀ i = 32 - i
 
 module _ (stratum id : ℕ) (s : Survey) (i : ℕ) where
-  none-left : length (take (s .closed) (s .rows)) ≤ i → rest stratum id s i ≡ false
-  none-left h = ap (anyLine stratum id) (drop-of-length-le (take (s .closed) (s .rows)) h)
-
   -- past the last closed row, or the last row, there is none
-  none-closed : s .closed ≤ i → rest stratum id s i ≡ false
-  none-closed h = none-left (rw length-take (le-trans (min-le-left (s .closed) (length (s .rows))) h))
-
-  none-kept : length (s .rows) ≤ i → rest stratum id s i ≡ false
-  none-kept h = none-left (rw length-take (le-trans (min-le-right (s .closed) (length (s .rows))) h))
+  none-left : min (s .closed) (length (s .rows)) ≤ i → rest stratum id s i ≡ false
+  none-left h = ap (anyLine stratum id) (drop-of-length-le (take (s .closed) (s .rows)) {i = i} (rw length-take h))
 
   -- the rows from i on are the one at i and those after it
   one-off : (z : Row) → i < length (s .rows) → i < s .closed → rest stratum id s i ≡ cond (isLine stratum id (getD (s .rows) i z)) true (rest stratum id s (i + 1))
   one-off z kept below =
-      let h : i < length (take (s .closed) (s .rows)) = rw length-take (le-min below kept) in
+      let h : i < length (take (s .closed) (s .rows)) = rw length-take (omega arith) in
       rw (add-one, drop-cons (take (s .closed) (s .rows)) i z, getD-take (s .closed) (s .rows) i z)
 
 -- the survey has 32 rows
@@ -50,8 +43,9 @@ loop-holds c = (omega arith, refl)
 
 returns : tie.Need-returns Inv-loop μ-loop
 returns c =
-    let s = c .before .before .before .args in
-    sym (none-closed (s .stratum) (s .id) (s .t1) _ (c .if1 .taken)) ∙ c .before .before .loop .inv .1
+    let at = c .before .before in
+    let s = at .before .args in
+    sym (none-left (s .stratum) (s .id) (s .t1) (at .loop .i) (omega (arith, c .if1 .taken))) ∙ at .loop .inv .1
 
 mul-row : tie.Need-mul-row Inv-loop μ-loop
 mul-row c = omega arith
@@ -72,7 +66,7 @@ turn c =
     let at = else .before .before in
     let s = at .before .args in
     let i = at .loop .i in
-    let kept : i < length (s .t1 .rows) = subst (λ (n : ℕ). i < n) (sym (all (at .before))) (else .before .loop-test .taken) in
+    let kept : i < length (s .t1 .rows) = omega (arith, all (at .before), else .before .loop-test .taken) in
     ap (λ (b : Bool). cond b true (rest (s .stratum) (s .id) (s .t1) (i + 1))) (c .is-line .ensures)
     ∙ sym (one-off (s .stratum) (s .id) (s .t1) i _ kept (else .if1 .left))
     ∙ at .loop .inv .1
@@ -92,8 +86,7 @@ loop-again c = (omega arith, rw (c .if2 .left) at (turn (c .before)))
 returns-3 : tie.Need-returns-3 Inv-loop μ-loop
 returns-3 c =
     let p = c .before .before in
-    let full : length (p .args .t1 .rows) ≤ c .before .loop .i = le-trans (le-of-eq (all p)) (c .loop-test .left) in
-    sym (none-kept (p .args .stratum) (p .args .id) (p .args .t1) (c .before .loop .i) full) ∙ c .before .loop .inv .1
+    sym (none-left (p .args .stratum) (p .args .id) (p .args .t1) (c .before .loop .i) (omega (arith, all p, c .loop-test .left))) ∙ c .before .loop .inv .1
 
 pub has-row-spec : {M : Type 1} → statement M
 has-row-spec =
