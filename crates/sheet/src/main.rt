@@ -11,87 +11,106 @@ use survey::total::Totalled;
 use survey::total::Totals;
 use survey::total::total;
 
-fn text(bytes: &[u8]) {
-    io::write_all(STDOUT_FILENO, bytes);
+// Standard output, and whether all that was printed is out. Past a write that fails nothing more is written: what comes
+// out is always a beginning of the text, and no number is cut in its middle and gone on with.
+struct Output {
+    good: bool,
 }
 
-fn number(n: u64) {
-    io::print_decimal(STDOUT_FILENO, n);
-}
+impl Output {
+    fn text(self, bytes: &[u8]) -> Output {
+        if !self.good {
+            return self;
+        }
+        Output {
+            good: io::write_all(STDOUT_FILENO, bytes),
+        }
+    }
 
-// Trees to two places. Both places are digits of their own, so that 5 hundredths are 0.05.
-fn trees(hundredths: u64) {
-    number(hundredths / 100);
-    text(b".");
-    number(hundredths / 10 % 10);
-    number(hundredths % 10);
-}
+    fn number(self, n: u64) -> Output {
+        if !self.good {
+            return self;
+        }
+        Output {
+            good: io::print_decimal(STDOUT_FILENO, n),
+        }
+    }
 
-// What a row's line and the project's line end with.
-fn trees_and_range(hundredths: u64, low: u64, high: u64) {
-    trees(hundredths);
-    text(b" ");
-    number(low);
-    text(b" ");
-    number(high);
-    text(b"\n");
-}
+    // Trees to two places. Both places are digits of their own, so that 5 hundredths are 0.05.
+    fn trees(self, hundredths: u64) -> Output {
+        self.number(hundredths / 100)
+            .text(b".")
+            .number(hundredths / 10 % 10)
+            .number(hundredths % 10)
+    }
 
-fn print_row(row: Row) {
-    number(row.stratum as u64);
-    text(b" ");
-    number(row.species as u64);
-    text(b" ");
-    let biomass = row.biomass;
-    trees_and_range(row.trees as u64, biomass.low.0, biomass.high.0);
-}
+    // What a row's line and the project's line end with.
+    fn trees_and_range(self, hundredths: u64, low: u64, high: u64) -> Output {
+        self.trees(hundredths)
+            .text(b" ")
+            .number(low)
+            .text(b" ")
+            .number(high)
+            .text(b"\n")
+    }
 
-// The i-th row, counted from 0. Totalling laid it there, so none is passed over.
-fn print_found(sheet: &[u8], i: usize) {
-    if let Found::Is(row) = find_row(sheet, i) {
-        print_row(row);
+    fn row(self, row: Row) -> Output {
+        let biomass = row.biomass;
+        self.number(row.stratum as u64)
+            .text(b" ")
+            .number(row.species as u64)
+            .text(b" ")
+            .trees_and_range(row.trees as u64, biomass.low.0, biomass.high.0)
+    }
+
+    // The i-th row of the sheet, counted from 0. Totalling laid it there, so none is passed over.
+    fn found(self, sheet: &[u8], i: usize) -> Output {
+        match find_row(sheet, i) {
+            Found::Is(row) => self.row(row),
+            Found::Refused(_) => self,
+        }
+    }
+
+    fn rows(self, sheet: &[u8], rows: usize) -> Output {
+        let mut output = self;
+        for i in 0..rows {
+            output = output.found(sheet, i);
+        }
+        output
+    }
+
+    fn project(self, totals: Totals) -> Output {
+        let carbon = totals.carbon;
+        self.text(b"project ")
+            .trees_and_range(totals.trees, carbon.low.0, carbon.high.0)
+    }
+
+    fn refusal(self, why: Refusal, at: usize) -> Output {
+        self.text(b"refused ")
+            .number(why.number() as u64)
+            .text(b" at ")
+            .number(at as u64)
+            .text(b"\n")
     }
 }
 
-fn print_rows(sheet: &[u8], rows: usize) {
-    for i in 0..rows {
-        print_found(sheet, i);
-    }
-}
-
-fn print_project(totals: Totals) {
-    text(b"project ");
-    let carbon = totals.carbon;
-    trees_and_range(totals.trees, carbon.low.0, carbon.high.0);
-}
-
-fn print_refusal(why: Refusal, at: usize) {
-    text(b"refused ");
-    number(why.number() as u64);
-    text(b" at ");
-    number(at as u64);
-    text(b"\n");
-}
-
-fn read_out(book: &[u8]) {
+fn read_out(output: Output, book: &[u8]) -> Output {
     // 32 rows of 25 bytes.
     let mut sheet = [0u8; 800];
     match total(book, &mut sheet) {
-        Totalled::Is(totals) => {
-            print_rows(&sheet, totals.rows);
-            print_project(totals);
-        }
-        Totalled::Refused { why, at } => print_refusal(why, at),
+        Totalled::Is(totals) => output.rows(&sheet, totals.rows).project(totals),
+        Totalled::Refused { why, at } => output.refusal(why, at),
     }
 }
 
 fn main() {
+    let output = Output { good: true };
     // A byte more than a book may have, so that longer input shows.
     let mut input = [0u8; 65_537];
     let n = io::read_full(STDIN_FILENO, &mut input);
     if 65_536 < n {
-        text(b"too long\n");
+        output.text(b"too long\n");
         return;
     }
-    read_out(&input[..n]);
+    read_out(output, &input[..n]);
 }
