@@ -1,30 +1,30 @@
 //! The proved library against the independent steps, over whole ranges where they can be walked.
-use crate::proved::{self, answer, Answer};
+use crate::proved::{self, Answer};
 use crate::random::Random;
 use crate::report::{Report, Tally};
 use crate::{protocol, steps};
 
 /// Operands that the library takes and the steps take.
-struct Pair<const N: usize, S> {
-    ask: fn([u64; N], u64) -> u64,
-    step: fn([u64; N]) -> S,
+pub struct Pair<const N: usize, S> {
+    pub ask: fn([u64; N]) -> Answer,
+    pub step: fn([u64; N]) -> S,
 }
 
 impl<const N: usize, S: Into<Answer>> Pair<N, S> {
-    fn agree(&self, tally: &mut Tally, operands: [u64; N]) {
-        tally.same(operands, answer(|which| (self.ask)(operands, which)), (self.step)(operands).into());
+    pub fn agree(&self, tally: &mut Tally, operands: [u64; N]) {
+        tally.same(operands, (self.ask)(operands), (self.step)(operands).into());
     }
 }
 
-const LINE_TARIFF: Pair<2, steps::Count> = Pair { ask: proved::line_tariff, step: steps::line_tariff };
-const MEAN: Pair<2, steps::Count> = Pair { ask: proved::mean, step: steps::mean };
-const TREES: Pair<3, steps::Count> = Pair { ask: proved::trees, step: steps::trees };
-const STEM: Pair<4, steps::Ends> = Pair { ask: proved::stem, step: steps::stem };
-const CROWN: Pair<2, steps::Ends> = Pair { ask: proved::crown, step: steps::crown };
-const ROOT: Pair<2, steps::Ends> = Pair { ask: proved::root, step: steps::root };
-const TREE: Pair<6, steps::Ends> = Pair { ask: proved::tree, step: steps::tree };
-const ROW: Pair<7, steps::Ends> = Pair { ask: proved::row, step: steps::row };
-const PROJECT: Pair<3, steps::Ends> = Pair { ask: proved::project, step: steps::project };
+pub const LINE_TARIFF: Pair<2, steps::Count> = Pair { ask: proved::line_tariff, step: steps::line_tariff };
+pub const MEAN: Pair<2, steps::Count> = Pair { ask: proved::mean, step: steps::mean };
+pub const TREES: Pair<3, steps::Count> = Pair { ask: proved::trees, step: steps::trees };
+pub const STEM: Pair<4, steps::Ends> = Pair { ask: proved::stem, step: steps::stem };
+pub const CROWN: Pair<2, steps::Ends> = Pair { ask: proved::crown, step: steps::crown };
+pub const ROOT: Pair<2, steps::Ends> = Pair { ask: proved::root, step: steps::root };
+pub const TREE: Pair<6, steps::Ends> = Pair { ask: proved::tree, step: steps::tree };
+pub const ROW: Pair<7, steps::Ends> = Pair { ask: proved::row, step: steps::row };
+pub const PROJECT: Pair<3, steps::Ends> = Pair { ask: proved::project, step: steps::project };
 
 pub const TARIFF: (u64, u64) = (1, 50);
 pub const D: (u64, u64) = (70, 1000);
@@ -33,21 +33,21 @@ pub const GRAVITY: (u64, u64) = (1, 100);
 pub const CROWN_GROUP: (u64, u64) = (0, 7);
 pub const ROOT_GROUP: (u64, u64) = (0, 5);
 pub const TREE_RANGES: [(u64, u64); 6] = [TARIFF, D, FACTOR, GRAVITY, CROWN_GROUP, ROOT_GROUP];
-const CM: (u64, u64) = (10, 100);
-const TENTHS: (u64, u64) = (1, 600);
-const MEASURED: (u64, u64) = (0, 1_000_000);
-const AREA: (u64, u64) = (1, 100_000_000);
+pub const CM: (u64, u64) = (10, 100);
+pub const TENTHS: (u64, u64) = (1, 600);
+pub const MEASURED: (u64, u64) = (0, 1_000_000);
+pub const AREA: (u64, u64) = (1, 100_000_000);
 const NUMBER: (u64, u64) = (1, 1000);
 pub const HUNDREDTHS: (u64, u64) = (0, 100_000_000);
-const SUM: (u64, u64) = (0, steps::GREATEST_SUM);
-const ANY: (u64, u64) = (0, u64::MAX);
+pub const SUM: (u64, u64) = (0, steps::GREATEST_SUM);
+pub const ANY: (u64, u64) = (0, u64::MAX);
 
 fn all((least, most): (u64, u64)) -> std::ops::RangeInclusive<u64> {
     least..=most
 }
 
 /// The row's operands: its trees, then the tree's.
-fn row_ranges() -> [(u64, u64); 7] {
+pub fn row_ranges() -> [(u64, u64); 7] {
     let [t, d, f, s, c, r] = TREE_RANGES;
     [HUNDREDTHS, t, d, f, s, c, r]
 }
@@ -62,11 +62,10 @@ pub fn run(report: &mut Report) {
     parts(report);
     sums(report);
     refusals(report);
-    which(report);
 }
 
 fn same_tariff(tally: &mut Tally, c: [i32; 4], at: [u64; 2]) {
-    tally.same((c, at), answer(|which| proved::single_tariff(c, at, which)), steps::single_tariff(c, at).into());
+    tally.same((c, at), proved::single_tariff(c, at), steps::single_tariff(c, at).into());
 }
 
 fn tariffs(report: &mut Report) {
@@ -356,43 +355,4 @@ fn refusals(report: &mut Report) {
     report.check("refusals of the tree", |tally| refuse(tally, &TREE, TREE_RANGES));
     report.check("refusals of the row", |tally| refuse(tally, &ROW, row_ranges()));
     report.check("refusals of the project", |tally| refuse(tally, &PROJECT, [SUM, SUM, ANY]));
-}
-
-/// Every function, with operands that it accepts and operands that it refuses.
-fn which(report: &mut Report) {
-    report.check("nothing stands at 3 and above", |tally| {
-        let oak = protocol::tariff()[0];
-        let questions: [(&str, &dyn Fn(u64) -> u64); 21] = [
-            ("single tariff", &|which| proved::single_tariff(oak, [17, 106], which)),
-            ("single tariff, refused", &|which| proved::single_tariff(oak, [17, 0], which)),
-            ("single tariff, refused as tariff", &|which| proved::single_tariff([0; 4], [17, 106], which)),
-            ("line tariff", &|which| proved::line_tariff([235, 9], which)),
-            ("line tariff, refused", &|which| proved::line_tariff([235, 0], which)),
-            ("mean", &|which| proved::mean([4, 14_400], which)),
-            ("mean, refused", &|which| proved::mean([0, 14_400], which)),
-            ("trees", &|which| proved::trees([4, 6, 1], which)),
-            ("trees, refused", &|which| proved::trees([4, 6, 0], which)),
-            ("stem", &|which| proved::stem([30, 600, 101, 56], which)),
-            ("stem, refused", &|which| proved::stem([0, 600, 101, 56], which)),
-            ("crown", &|which| proved::crown([7, 600], which)),
-            ("crown, refused", &|which| proved::crown([8, 600], which)),
-            ("root", &|which| proved::root([5, 600], which)),
-            ("root, refused", &|which| proved::root([6, 600], which)),
-            ("tree", &|which| proved::tree([30, 600, 101, 56, 7, 5], which)),
-            ("tree, refused", &|which| proved::tree([30, 600, 101, 56, 7, 6], which)),
-            ("row", &|which| proved::row([2_400, 30, 600, 101, 56, 7, 5], which)),
-            ("row, refused", &|which| proved::row([2_400, 30, 600, 101, 56, 8, 5], which)),
-            ("project", &|which| proved::project([50_288_870_208, 50_288_870_425, 2_400], which)),
-            ("project, refused", &|which| proved::project([u64::MAX, 0, 2_400], which)),
-        ];
-        let mut random = Random::new(14);
-        for (name, ask) in questions {
-            let disguised =
-                [8, 16, 31, 32, 63].into_iter().flat_map(|bits| [0, 1, 2].map(|which| which + (1u64 << bits)));
-            let others = (0..1_000).map(|_| random.any().max(3));
-            for which in (3..=1_000).chain(disguised).chain(others).chain([u64::MAX]) {
-                tally.same((name, which), ask(which), 0);
-            }
-        }
-    });
 }

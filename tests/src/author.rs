@@ -66,11 +66,19 @@ impl Author {
         let ranges = RANGES[usize::from(byte) - 1];
         let mut operands: Vec<u64> = ranges.iter().map(|&(least, most)| self.random.between(least, most)).collect();
         if !ranges.is_empty() && self.one_in(2) {
-            let i = self.random.between(0, ranges.len() as u64 - 1) as usize;
-            let (least, most) = ranges[i];
-            operands[i] = self.one_of(&[least.wrapping_sub(1), least, most, most + 1]);
+            self.change(byte, &mut operands, |author, (least, most)| {
+                author.one_of(&[least.wrapping_sub(1), least, most, most + 1])
+            });
         }
         self.put(byte, &operands);
+    }
+
+    /// Puts one of a command's operands, if it has any, to a number chosen by its range.
+    pub fn change(&mut self, byte: u8, operands: &mut [u64], choose: impl FnOnce(&mut Author, (u64, u64)) -> u64) {
+        if !operands.is_empty() {
+            let i = self.random.between(0, operands.len() as u64 - 1) as usize;
+            operands[i] = choose(self, RANGES[usize::from(byte) - 1][i]);
+        }
     }
 
     /// The operands of a species: groups and gravity by chance.

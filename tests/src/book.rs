@@ -3,7 +3,7 @@
 use crate::total::Refused;
 
 const AT_OR_PAST_THE_END: u64 = 1;
-const UNKNOWN_BYTE: u64 = 2;
+pub const UNKNOWN_BYTE: u64 = 2;
 const OPERANDS_CUT_SHORT: u64 = 3;
 const TOO_FEW_BYTES: u64 = 4;
 
@@ -27,7 +27,7 @@ pub struct Command {
     pub operands: Vec<u64>,
 }
 
-fn widths(byte: u8) -> Option<&'static [usize]> {
+pub fn widths(byte: u8) -> Option<&'static [usize]> {
     WIDTHS.get(usize::from(byte).wrapping_sub(1)).copied()
 }
 
@@ -37,7 +37,7 @@ pub fn name(byte: Option<&u8>) -> &'static str {
 }
 
 /// The number that bytes spell, high byte first.
-fn number(bytes: &[u8]) -> u64 {
+pub fn number(bytes: &[u8]) -> u64 {
     bytes.iter().fold(0, |high, &byte| high << 8 | u64::from(byte))
 }
 
@@ -94,7 +94,7 @@ impl Command {
     /// Writes the command from a place on, and answers the place after it.
     pub fn write(&self, buffer: &mut [u8], at: usize) -> Result<usize, u64> {
         let bytes = self.bytes();
-        let next = at + bytes.len();
+        let next = at.checked_add(bytes.len()).ok_or(TOO_FEW_BYTES)?;
         buffer.get_mut(at..next).ok_or(TOO_FEW_BYTES)?.copy_from_slice(&bytes);
         Ok(next)
     }

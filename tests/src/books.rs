@@ -4,7 +4,7 @@ use crate::book::{self, four_bytes, Command, CLOSE, END, FACTOR, HEIGHT, MEASURE
 use crate::random::Random;
 use crate::{protocol, steps, streams};
 use std::mem;
-use std::ops::RangeInclusive;
+use std::ops::{Range, RangeInclusive};
 
 /// How many bytes a book has at most.
 pub const LONGEST: usize = 65_536;
@@ -66,9 +66,9 @@ pub fn by_chance(seed: u64) -> Vec<u8> {
 }
 
 /// Books at the limits of document 01 and just over them, and other ends.
-pub fn edges(rounds: u64) -> Vec<Vec<u8>> {
+pub fn edges(seeds: Range<u64>) -> Vec<Vec<u8>> {
     let mut books = vec![Vec::new(), vec![END], listing(), of_length(streams::LONGEST - 5)];
-    for seed in 0..rounds {
+    for seed in seeds.clone() {
         let mut random = Random::new(seed);
         let n = random.between(1, 65_535);
         let k = random.between(1, 99);
@@ -87,7 +87,7 @@ pub fn edges(rounds: u64) -> Vec<Vec<u8>> {
         books.extend([4_999_999, 5_000_000, 504_999_999, 505_000_000].map(|c1| one_tariff(seed, c1)));
         books.push(without_factor(seed));
     }
-    for seed in 0..rounds / 4 {
+    for seed in seeds.step_by(4) {
         books.extend([1_000, 1_001].map(|height_trees| one_line(seed, [1, 1], height_trees, 7)));
         // Every species and every factor.
         books.push(Writer::new(Author::new(seed), 16, CM.0..=CM.1).book(20, 5));
@@ -99,7 +99,7 @@ pub fn edges(rounds: u64) -> Vec<Vec<u8>> {
 pub fn of_every_kind() -> Vec<Vec<u8>> {
     let seeds = 5_000_000..5_000_300;
     let books = seeds.flat_map(|seed| [accepted, damaged, by_chance].map(|book| book(seed)));
-    books.chain(edges(8)).collect()
+    books.chain(edges(0..8)).collect()
 }
 
 /// Books of about the most bytes that a book may have, and over: accepted, refused at the last byte or at the first.
@@ -142,9 +142,21 @@ pub fn of_length(length: usize) -> Vec<u8> {
     let factors = (1..=4).find(|factors| (length - 38 - 3 * factors).is_multiple_of(4)).expect("a remainder of 4");
     let writer = Writer::new(Author::new(length as u64), 1, 20..=19 + factors as u64);
     let measured = (length - 38 - 3 * factors) / 4;
-    let book = writer.one_line([6, 1], 1, vec![1; measured]);
+    // Six times as many trees, unless these were too many.
+    let p = if measured < 100_000 { 6 } else { 1 };
+    let book = writer.one_line([p, 1], 1, vec![1; measured]);
     assert_eq!(book.len(), length);
     book
+}
+
+/// An accepted book of so many lines, with trees in most of them.
+pub fn of_lines(lines: usize) -> Vec<u8> {
+    any_writer(lines as u64).book(lines, 5)
+}
+
+/// An accepted book of one line with so many height trees.
+pub fn of_height_trees(height_trees: usize) -> Vec<u8> {
+    one_line(0, [1, 1], height_trees, 7)
 }
 
 /// Counts that add up to so many trees.

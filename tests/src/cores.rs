@@ -12,11 +12,16 @@ pub fn each<'a, T: Sync, R: Send>(all: &'a [T], work: impl Fn(&'a T) -> R + Sync
         }
         done
     };
-    let mut made = thread::scope(|scope| {
-        let workers = thread::available_parallelism().map_or(1, usize::from);
-        let workers: Vec<_> = (0..workers).map(|_| scope.spawn(share)).collect();
-        workers.into_iter().flat_map(|worker| worker.join().expect("a share of the work")).collect::<Vec<_>>()
-    });
+    let mut made: Vec<_> = all_at_once(share).into_iter().flatten().collect();
     made.sort_by_key(|&(i, _)| i);
     made.into_iter().map(|(_, one)| one).collect()
+}
+
+/// What each core makes of its share of the work.
+pub fn all_at_once<R: Send>(share: impl Fn() -> R + Sync) -> Vec<R> {
+    thread::scope(|scope| {
+        let workers = thread::available_parallelism().map_or(1, usize::from);
+        let workers: Vec<_> = (0..workers).map(|_| scope.spawn(&share)).collect();
+        workers.into_iter().map(|worker| worker.join().expect("a share of the work")).collect()
+    })
 }

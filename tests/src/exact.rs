@@ -128,9 +128,9 @@ fn the_powers(report: &mut Report) {
 }
 
 /// The low is not above the exact figure, nor the high below it.
-fn ends_hold(tally: &mut Tally, operands: impl Debug, ask: impl Fn(u64) -> u64, exact: i128) {
-    let [low, high] = [1, 2].map(|which| i128::from(ask(which)));
-    tally.holds(ask(0) == 0 && low * PARTS <= exact && exact <= high * PARTS, (operands, low, high));
+fn ends_hold(tally: &mut Tally, operands: impl Debug, ends: [u64; 2], exact: i128) {
+    let [low, high] = ends.map(i128::from);
+    tally.holds(low * PARTS <= exact && exact <= high * PARTS, (operands, low, high));
 }
 
 fn the_parts(report: &mut Report) {
@@ -140,12 +140,8 @@ fn the_parts(report: &mut Report) {
                 for factor in FACTORS {
                     for gravity in GRAVITIES {
                         let operands = [tariff, d, factor, gravity];
-                        ends_hold(
-                            tally,
-                            operands,
-                            |which| proved::stem(operands, which),
-                            stem(tariff, d, factor, gravity),
-                        );
+                        let exact = stem(tariff, d, factor, gravity);
+                        ends_hold(tally, operands, proved::stem(operands).accepted(), exact);
                     }
                 }
             }
@@ -155,31 +151,31 @@ fn the_parts(report: &mut Report) {
     report.check("crown, low ≤ exact ≤ high", |tally| {
         for group in CROWN_GROUP.0..=CROWN_GROUP.1 {
             for d in D.0..=D.1 {
-                let ask = |which| proved::crown([group, d], which);
+                let [low, high] = proved::crown([group, d]).accepted();
                 if d > 500 {
-                    ends_hold(tally, (group, d), ask, crown(group, d, 0));
+                    ends_hold(tally, (group, d), [low, high], crown(group, d, 0));
                     continue;
                 }
                 let k = protocol::crown()[group as usize][0] as u64;
                 let stands = |mg: u64| powers::compare(&[(10 * mg, 10000), (10, 24767)], &[(k, 10000), (d, 24767)]);
-                tally.holds(stands(ask(1)) != Greater, (group, d, ask(1), "is above the exact crown"));
-                tally.holds(stands(ask(2)) != Less, (group, d, ask(2), "is below the exact crown"));
+                tally.holds(stands(low) != Greater, (group, d, low, "is above the exact crown"));
+                tally.holds(stands(high) != Less, (group, d, high, "is below the exact crown"));
             }
         }
     });
     report.check("root, low ≤ exact ≤ high", |tally| {
         for group in ROOT_GROUP.0..=ROOT_GROUP.1 {
             for d in D.0..=D.1 {
-                let ask = |which| proved::root([group, d], which);
+                let [low, high] = proved::root([group, d]).accepted();
                 if d > 300 {
-                    ends_hold(tally, (group, d), ask, root(group, d, 0));
+                    ends_hold(tally, (group, d), [low, high], root(group, d, 0));
                     continue;
                 }
                 let b = protocol::root()[group as usize][0] as u128;
                 let exact = b.pow(2) * u128::from(d).pow(5);
                 let square = |mg: u64| u128::from(mg).pow(2) * 100_000;
-                tally.holds(square(ask(1)) <= exact, (group, d, ask(1), "is above the exact root"));
-                tally.holds(square(ask(2)) >= exact, (group, d, ask(2), "is below the exact root"));
+                tally.holds(square(low) <= exact, (group, d, low, "is above the exact root"));
+                tally.holds(square(high) >= exact, (group, d, high, "is below the exact root"));
             }
         }
     });
@@ -189,8 +185,8 @@ fn the_tree(report: &mut Report) {
     report.check("tree, the gap is at most 54 mg", |tally| {
         let mut widest = (0, [0; 6]);
         let mut look = |tally: &mut Tally, operands: [u64; 6]| {
-            let [refusal, low, high] = [0, 1, 2].map(|which| proved::tree(operands, which));
-            tally.holds(refusal == 0 && low < high && high - low <= WIDEST_TREE, (operands, refusal, low, high));
+            let [low, high] = proved::tree(operands).accepted();
+            tally.holds(low < high && high - low <= WIDEST_TREE, (operands, low, high));
             widest = widest.max((high - low, operands));
         };
         // The stem's gap grows with factor and gravity: all else at their ends, then all by chance.
@@ -228,15 +224,13 @@ fn the_project(report: &mut Report) {
                 };
                 let tree = some(&mut random, TREE_RANGES);
                 let [t, d, f, s, c, r] = tree;
-                let row = |which| proved::row([n, t, d, f, s, c, r], which);
-                tally.same((n, tree), row(0), 0);
-                low += row(1);
-                high += row(2);
+                let row = proved::row([n, t, d, f, s, c, r]).accepted();
+                low += row[0];
+                high += row[1];
                 exact.add(n, tree);
             }
-            let ask = |which| proved::project([low, high, exact.trees], which);
-            tally.same((low, high, exact.trees), ask(0), 0);
-            exact.holds(tally, (low, high), ask(1), ask(2));
+            let project = proved::project([low, high, exact.trees]).accepted();
+            exact.holds(tally, (low, high), project[0], project[1]);
         }
     });
 }

@@ -1,16 +1,22 @@
 //! Tests of the proved libraries from outside: against an implementation of document 01 that shares nothing
 //! with them, against exact arithmetic, and against the protocol's worked figures.
 //!
-//! `outside` runs every check. `outside figures` prints the library's crowns and roots for power_table.py.
+//! `outside` runs every check. `outside figures` prints the library's crowns and roots for power_table.py, `outside
+//! fuzz SEED SECONDS` totals books by chance, and `outside bench` takes times.
 mod agree;
 mod author;
+mod bench;
 mod book;
 mod books;
+mod changes;
 mod commands;
 mod cores;
 mod exact;
+mod fuzz;
+mod library;
 mod listing;
 mod natural;
+mod plain;
 mod play;
 mod powers;
 mod printer;
@@ -30,41 +36,56 @@ mod worked;
 use std::process::ExitCode;
 
 fn main() -> ExitCode {
-    match std::env::args().nth(1).as_deref() {
-        None => {
-            let mut report = report::Report::default();
-            worked::run(&mut report);
-            agree::run(&mut report);
-            exact::run(&mut report);
-            replay::run(&mut report);
-            totals::run(&mut report);
-            listing::run(&mut report);
-            commands::run(&mut report);
-            if report.finish() {
-                ExitCode::SUCCESS
-            } else {
-                ExitCode::FAILURE
-            }
-        }
-        Some("figures") => {
-            figures();
-            ExitCode::SUCCESS
-        }
-        Some(_) => {
-            eprintln!("usage: outside [figures]");
-            ExitCode::FAILURE
-        }
+    let words: Vec<String> = std::env::args().skip(1).collect();
+    let words: Vec<&str> = words.iter().map(String::as_str).collect();
+    let good = match words[..] {
+        [] => every_check(),
+        ["figures"] => figures(),
+        ["fuzz", seed, seconds] => match (seed.parse(), seconds.parse()) {
+            (Ok(seed), Ok(seconds)) => fuzz::alone(seed, seconds),
+            _ => usage(),
+        },
+        ["bench"] => bench::run(bench::FULL),
+        ["bench", "quick"] => bench::run(bench::QUICK),
+        _ => usage(),
+    };
+    if good {
+        ExitCode::SUCCESS
+    } else {
+        ExitCode::FAILURE
     }
 }
 
+fn usage() -> bool {
+    eprintln!("usage: outside [figures | fuzz SEED SECONDS | bench [quick]]");
+    false
+}
+
+fn every_check() -> bool {
+    let mut report = report::Report::default();
+    worked::run(&mut report);
+    agree::run(&mut report);
+    exact::run(&mut report);
+    library::run(&mut report);
+    replay::run(&mut report);
+    totals::run(&mut report);
+    fuzz::run(&mut report);
+    listing::run(&mut report);
+    commands::run(&mut report);
+    report.finish()
+}
+
 /// One line to a figure: its name, group, d, low and high.
-fn figures() {
+fn figures() -> bool {
     for d in agree::D.0..=agree::D.1 {
         for group in agree::CROWN_GROUP.0..=agree::CROWN_GROUP.1 {
-            println!("crown {group} {d} {} {}", proved::crown([group, d], 1), proved::crown([group, d], 2));
+            let [low, high] = proved::crown([group, d]).accepted();
+            println!("crown {group} {d} {low} {high}");
         }
         for group in agree::ROOT_GROUP.0..=agree::ROOT_GROUP.1 {
-            println!("root {group} {d} {} {}", proved::root([group, d], 1), proved::root([group, d], 2));
+            let [low, high] = proved::root([group, d]).accepted();
+            println!("root {group} {d} {low} {high}");
         }
     }
+    true
 }

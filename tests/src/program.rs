@@ -1,8 +1,9 @@
 //! The proved programs that tests/run builds.
+use crate::total::ROW;
 use std::fmt::{Debug, Formatter};
 use std::io::{ErrorKind, Write};
 use std::process::{Command, Stdio};
-use std::thread;
+use std::{iter, thread};
 
 const FOLDER: &str = concat!(env!("CARGO_MANIFEST_DIR"), "/../target/bin/");
 
@@ -27,6 +28,12 @@ pub fn output<'a>(name: &str, pieces: impl Iterator<Item = &'a [u8]> + Send) -> 
     });
     assert!(output.status.success(), "{name}: {}", output.status);
     output.stdout
+}
+
+/// Where two sheets begin to differ, and a row's length of each from there: nothing where they are the same.
+pub fn first_difference<'a>(one: &'a [u8], other: &'a [u8]) -> (usize, [Hex<'a>; 2]) {
+    let at = iter::zip(one, other).take_while(|(byte, other)| byte == other).count();
+    (at, [one, other].map(|sheet| Hex(&sheet[at..sheet.len().min(at + ROW)])))
 }
 
 /// Bytes, shown in hexadecimal.

@@ -1,69 +1,6 @@
-//! The proved library's C functions. Each takes its operands and `which`, and answers one number:
-//! 0 the refusal (0 where there is none), 1 the value or the low, 2 the high.
-
-extern "C" {
-    fn biomass_single_tariff(c1: i32, c2: i32, c3: i32, c4: i32, cm: u64, tenths: u64, which: u64) -> u64;
-    fn biomass_line_tariff(sum: u64, number: u64, which: u64) -> u64;
-    fn biomass_mean(n: u64, squares: u64, which: u64) -> u64;
-    fn biomass_trees(n: u64, p: u64, q: u64, which: u64) -> u64;
-    fn biomass_stem(tariff: u64, d: u64, factor: u64, gravity: u64, which: u64) -> u64;
-    fn biomass_crown(group: u64, d: u64, which: u64) -> u64;
-    fn biomass_root(group: u64, d: u64, which: u64) -> u64;
-    fn biomass_tree(tariff: u64, d: u64, factor: u64, gravity: u64, crown: u64, root: u64, which: u64) -> u64;
-    fn biomass_row(
-        trees: u64,
-        tariff: u64,
-        d: u64,
-        factor: u64,
-        gravity: u64,
-        crown: u64,
-        root: u64,
-        which: u64,
-    ) -> u64;
-    fn biomass_project(low: u64, high: u64, trees: u64, which: u64) -> u64;
-}
-
-// Every call is safe: the functions take numbers alone and ask nothing of their caller.
-
-pub fn single_tariff([c1, c2, c3, c4]: [i32; 4], [cm, tenths]: [u64; 2], which: u64) -> u64 {
-    unsafe { biomass_single_tariff(c1, c2, c3, c4, cm, tenths, which) }
-}
-
-pub fn line_tariff([sum, number]: [u64; 2], which: u64) -> u64 {
-    unsafe { biomass_line_tariff(sum, number, which) }
-}
-
-pub fn mean([n, squares]: [u64; 2], which: u64) -> u64 {
-    unsafe { biomass_mean(n, squares, which) }
-}
-
-pub fn trees([n, p, q]: [u64; 3], which: u64) -> u64 {
-    unsafe { biomass_trees(n, p, q, which) }
-}
-
-pub fn stem([tariff, d, factor, gravity]: [u64; 4], which: u64) -> u64 {
-    unsafe { biomass_stem(tariff, d, factor, gravity, which) }
-}
-
-pub fn crown([group, d]: [u64; 2], which: u64) -> u64 {
-    unsafe { biomass_crown(group, d, which) }
-}
-
-pub fn root([group, d]: [u64; 2], which: u64) -> u64 {
-    unsafe { biomass_root(group, d, which) }
-}
-
-pub fn tree([tariff, d, factor, gravity, crown, root]: [u64; 6], which: u64) -> u64 {
-    unsafe { biomass_tree(tariff, d, factor, gravity, crown, root, which) }
-}
-
-pub fn row([trees, tariff, d, factor, gravity, crown, root]: [u64; 7], which: u64) -> u64 {
-    unsafe { biomass_row(trees, tariff, d, factor, gravity, crown, root, which) }
-}
-
-pub fn project([low, high, trees]: [u64; 3], which: u64) -> u64 {
-    unsafe { biomass_project(low, high, trees, which) }
-}
+//! The proved library's figures, by the crate of bindings/rust: the numbers as its C functions put them, held to what
+//! the crate's own functions make of them.
+use fieldbook::{raw, AverageTree, Grams, Milligrams, Range, Refusal};
 
 /// All that the library says of one set of operands.
 #[derive(Clone, Copy, PartialEq, Eq, Debug)]
@@ -73,17 +10,17 @@ pub struct Answer {
     pub high: u64,
 }
 
-/// Asks for the refusal, the low and the high.
-pub fn answer(ask: impl Fn(u64) -> u64) -> Answer {
-    Answer { refusal: ask(0), low: ask(1), high: ask(2) }
+impl Answer {
+    /// The low and the high of operands that are not refused.
+    pub fn accepted(self) -> [u64; 2] {
+        assert_eq!(self.refusal, 0);
+        [self.low, self.high]
+    }
 }
 
 impl From<Result<u64, u64>> for Answer {
     fn from(figure: Result<u64, u64>) -> Answer {
-        match figure {
-            Ok(value) => Answer { refusal: 0, low: value, high: 0 },
-            Err(refusal) => Answer { refusal, low: 0, high: 0 },
-        }
+        figure.map(|value| (value, 0)).into()
     }
 }
 
@@ -94,4 +31,87 @@ impl From<Result<(u64, u64), u64>> for Answer {
             Err(refusal) => Answer { refusal, low: 0, high: 0 },
         }
     }
+}
+
+/// What stands where the answer goes, and beside it. The library has to put another number there, 0 where it refuses,
+/// and to leave those beside it.
+const BEFORE: u64 = 0xa5a5_a5a5_a5a5_a5a5;
+
+/// The number of the refusal, and what the library put into so many numbers.
+fn put<const N: usize>(ask: impl FnOnce(&mut [u64; N]) -> u8) -> (u64, [u64; N]) {
+    let mut room = [[BEFORE; N]; 3];
+    let refusal = ask(&mut room[1]).into();
+    assert_eq!([room[0], room[2]], [[BEFORE; N]; 2], "the numbers beside the answer");
+    (refusal, room[1])
+}
+
+fn count(ask: impl FnOnce(&mut u64) -> u8, told: Result<u64, Refusal>) -> Answer {
+    let (refusal, [value]) = put(|[value]| ask(value));
+    agreed(Answer { refusal, low: value, high: 0 }, told.map(|value| (value, 0)))
+}
+
+fn ends(ask: impl FnOnce(&mut [u64; 2]) -> u8, told: Result<(u64, u64), Refusal>) -> Answer {
+    let (refusal, [low, high]) = put(ask);
+    agreed(Answer { refusal, low, high }, told)
+}
+
+fn agreed(answer: Answer, told: Result<(u64, u64), Refusal>) -> Answer {
+    assert_eq!(answer, told.map_err(|refusal| refusal.0.into()).into(), "what the crate makes of the numbers");
+    answer
+}
+
+fn milligrams(Range { low, high }: Range<Milligrams>) -> (u64, u64) {
+    (low.0, high.0)
+}
+
+fn grams(Range { low, high }: Range<Grams>) -> (u64, u64) {
+    (low.0, high.0)
+}
+
+pub fn single_tariff(constants: [i32; 4], [cm, tenths]: [u64; 2]) -> Answer {
+    let [c1, c2, c3, c4] = constants;
+    let ask = |answer: &mut u64| raw::single_tariff(c1, c2, c3, c4, cm, tenths, answer);
+    count(ask, fieldbook::single_tariff(constants, cm, tenths))
+}
+
+pub fn line_tariff([sum, number]: [u64; 2]) -> Answer {
+    count(|answer| raw::line_tariff(sum, number, answer), fieldbook::line_tariff(sum, number))
+}
+
+pub fn mean([n, squares]: [u64; 2]) -> Answer {
+    count(|answer| raw::mean(n, squares, answer), fieldbook::mean(n, squares))
+}
+
+pub fn trees([n, p, q]: [u64; 3]) -> Answer {
+    count(|answer| raw::trees(n, p, q, answer), fieldbook::trees(n, p, q))
+}
+
+pub fn stem([tariff, d, factor, gravity]: [u64; 4]) -> Answer {
+    let told = fieldbook::stem(tariff, d, factor, gravity).map(milligrams);
+    ends(|answer| raw::stem(tariff, d, factor, gravity, answer), told)
+}
+
+pub fn crown([group, d]: [u64; 2]) -> Answer {
+    ends(|answer| raw::crown(group, d, answer), fieldbook::crown(group, d).map(milligrams))
+}
+
+pub fn root([group, d]: [u64; 2]) -> Answer {
+    ends(|answer| raw::root(group, d, answer), fieldbook::root(group, d).map(milligrams))
+}
+
+pub fn tree([tariff, d, factor, gravity, crown, root]: [u64; 6]) -> Answer {
+    let tree = AverageTree { tariff, d, factor, gravity, crown, root };
+    let ask = |answer: &mut [u64; 2]| raw::tree(tariff, d, factor, gravity, crown, root, answer);
+    ends(ask, fieldbook::tree(tree).map(milligrams))
+}
+
+pub fn row([trees, tariff, d, factor, gravity, crown, root]: [u64; 7]) -> Answer {
+    let tree = AverageTree { tariff, d, factor, gravity, crown, root };
+    let ask = |answer: &mut [u64; 2]| raw::row(trees, tariff, d, factor, gravity, crown, root, answer);
+    ends(ask, fieldbook::row(trees, tree).map(milligrams))
+}
+
+pub fn project([low, high, trees]: [u64; 3]) -> Answer {
+    let sums = Range { low: Milligrams(low), high: Milligrams(high) };
+    ends(|answer| raw::project(low, high, trees, answer), fieldbook::project(sums, trees).map(grams))
 }

@@ -29,6 +29,16 @@ impl Tally {
         }
     }
 
+    /// Adds what was compared elsewhere.
+    pub fn add(&mut self, other: Tally) {
+        self.comparisons += other.comparisons;
+        self.differences += other.differences;
+    }
+
+    pub fn is_good(&self) -> bool {
+        self.differences == 0
+    }
+
     fn differ(&mut self, what: std::fmt::Arguments) {
         self.differences += 1;
         if self.differences <= SHOWN {

@@ -12,6 +12,9 @@ pub const LEAST_SHEET: usize = 800;
 /// How many bytes a row's stratum, species, T, d, N, low and high take.
 const WIDTHS: [usize; 7] = [1, 1, 1, 2, 4, 8, 8];
 
+/// How many bytes a row takes.
+pub const ROW: usize = 25;
+
 /// The number of a refusal and its place.
 pub struct Refused {
     pub number: u64,
@@ -46,6 +49,15 @@ fn play(book: &[u8]) -> Result<Survey, Refused> {
         return Err(Refused { number: ENDED, at });
     }
     Ok(survey)
+}
+
+/// The numbers in the bytes of a row.
+pub fn row_numbers(mut row: &[u8]) -> [u64; 7] {
+    WIDTHS.map(|width| {
+        let (number, rest) = row.split_at(width);
+        row = rest;
+        book::number(number)
+    })
 }
 
 fn row_bytes(line: &Line) -> Vec<u8> {

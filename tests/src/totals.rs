@@ -1,11 +1,11 @@
-//! The program `totals`, which totals books by the proved library, against the totalling of these tests: every answer
-//! and every byte of the sheets.
+//! The program `totals`, which totals books by the proved library, and the library as it is called from other
+//! languages, against the totalling of these tests: every answer and every byte of the sheets.
 use crate::author::Author;
 use crate::exact::Exact;
-use crate::program::{self, Hex};
+use crate::program::{self, first_difference, Hex};
 use crate::report::{Report, Tally};
 use crate::total::{total, Refused, Totals, LEAST_SHEET};
-use crate::{books, cores, streams};
+use crate::{books, cores, library, streams};
 use std::collections::BTreeMap;
 use std::iter;
 
@@ -17,7 +17,7 @@ const MANY: u64 = 24_000;
 const OFTEN: u64 = 100;
 
 /// The refusals that document 01 has for totalling: all but 4, which is for writing.
-const NAMED: [u64; 15] = [1, 2, 3, 5, 6, 7, 8, 9, 10, 11, 12, 13, 14, 15, 16];
+pub const NAMED: [u64; 15] = [1, 2, 3, 5, 6, 7, 8, 9, 10, 11, 12, 13, 14, 15, 16];
 
 /// A book, and the sheet that it is totalled into: its length, and the seed of the bytes that it holds before.
 struct Frame {
@@ -35,16 +35,39 @@ impl Frame {
         [&length(self.length)[..], &[self.seed], &length(self.book.len()), &self.book].concat()
     }
 
+    /// What the sheet holds before.
+    fn noise(&self) -> Vec<u8> {
+        let noise = |i: usize| usize::from(self.seed) + i % 256 * 7 + i / 256 * 59;
+        (0..self.length).map(|i| noise(i) as u8).collect()
+    }
+
+    /// What the program would print of what the library answers.
+    fn library(&self) -> Answer {
+        let mut sheet = self.noise();
+        let line = match library::total(&self.book, &mut sheet) {
+            (0, [rows, trees, low, high, 0]) => format!("{rows} {trees} {low} {high}\n"),
+            (number, [0, 0, 0, 0, at]) => format!("refused {number} at {at}\n"),
+            (number, numbers) => format!("{number} with {numbers:?}"),
+        };
+        (line, sheet)
+    }
+
     /// What the program is to print, and what comes of the book.
     fn total(&self) -> (Answer, Result<Totals, Refused>) {
-        let noise = |i: usize| usize::from(self.seed) + i % 256 * 7 + i / 256 * 59;
-        let mut sheet: Vec<u8> = (0..self.length).map(|i| noise(i) as u8).collect();
+        let mut sheet = self.noise();
         let totalled = total(&self.book, &mut sheet);
         let line = match &totalled {
             Ok(totals) => format!("{} {} {} {}\n", totals.survey.lines.len(), totals.trees, totals.low, totals.high),
             Err(refused) => format!("{refused}\n"),
         };
         ((line, sheet), totalled)
+    }
+
+    fn compare(&self, tally: &mut Tally, (line, sheet): Answer, (expected, bytes): &Answer) {
+        let book = Hex(&self.book);
+        tally.same((&book, self.length), &line, expected);
+        let (at, [found, wanted]) = first_difference(&sheet, bytes);
+        tally.same((&book, expected, "the sheet from byte", at), found, wanted);
     }
 }
 
@@ -68,7 +91,7 @@ pub fn run(report: &mut Report) {
     check("accepted books", frames(400, (1_000_000..1_020_000).map(books::accepted), None));
     check("damaged books", frames(401, (2_000_000..2_020_000).map(books::damaged), Some(30)));
     check("bytes and commands by chance", frames(402, (3_000_000..3_008_000).map(books::by_chance), Some(12)));
-    check("books at the limits", frames(403, books::edges(150).into_iter(), Some(60)));
+    check("books at the limits", frames(403, books::edges(0..150).into_iter(), Some(60)));
     check("bytes after the end", frames(404, (500..504).flat_map(books::after_the_end), Some(60)));
     check("books cut short at every length", frames(405, (600..620).flat_map(books::cut_short), Some(60)));
     check("sheets of every length", sheets());
@@ -121,19 +144,15 @@ fn program(frames: &[Frame]) -> Vec<u8> {
 /// Compares frame by frame. The lengths of the sheets tell the frames apart, whatever the lines say.
 fn compare(tally: &mut Tally, frames: &[Frame], mut output: &[u8], met: &mut Met) {
     for frame in frames {
-        let book = Hex(&frame.book);
-        let ((expected, bytes), totalled) = frame.total();
+        let (expected, totalled) = frame.total();
         let (line, rest) = output.split_at(output.iter().position(|&byte| byte == b'\n').map_or(0, |end| end + 1));
         let (sheet, rest) = rest.split_at(frame.length.min(rest.len()));
         output = rest;
-        tally.same((&book, frame.length), &*String::from_utf8_lossy(line), &expected);
-        // From the first byte that differs on, a row's length is shown: nothing where none differs.
-        let at = iter::zip(sheet, &bytes).take_while(|(byte, expected)| byte == expected).count();
-        let [found, wanted] = [sheet, &bytes].map(|sheet| Hex(&sheet[at..sheet.len().min(at + 25)]));
-        tally.same((&book, &expected, "the sheet from byte", at), found, wanted);
+        frame.compare(tally, (String::from_utf8_lossy(line).into(), sheet.to_vec()), &expected);
+        frame.compare(tally, frame.library(), &expected);
         met.add(&totalled);
         if let Ok(totals) = totalled {
-            exact(&totals).holds(tally, &book, totals.low, totals.high);
+            exact(&totals).holds(tally, Hex(&frame.book), totals.low, totals.high);
         }
     }
     tally.same("after the last sheet", Hex(output), Hex(&[]));

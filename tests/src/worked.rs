@@ -1,11 +1,11 @@
 //! Printed figures: the protocol's worked examples, and the lines that document 01 marks. Each is put to the
 //! proved library and to the independent steps.
 use crate::protocol::decimal;
-use crate::proved::{self, answer};
+use crate::proved::{self, Answer};
 use crate::report::{Report, Tally};
 use crate::steps;
 
-const OAK: [i32; 4] = [58830000, 20123000, -54780, -57397];
+pub const OAK: [i32; 4] = [58830000, 20123000, -54780, -57397];
 const ASH: [i32; 4] = [91605000, 20256000, -668420, -44172];
 const SCOTS_PINE: [i32; 4] = [98173870, 11774860, -1141740, 0];
 const CORSICAN_PINE: [i32; 4] = [50708420, 17540530, -1938340, 0];
@@ -78,31 +78,31 @@ pub fn run(report: &mut Report) {
 }
 
 fn tariff(tally: &mut Tally, c: [i32; 4], at: [u64; 2], expected: u64) {
-    tally.same((c, at), answer(|which| proved::single_tariff(c, at, which)), Ok(expected).into());
+    tally.same((c, at), proved::single_tariff(c, at), Ok(expected).into());
     tally.same((c, at), steps::single_tariff(c, at), Ok(expected));
 }
 
 /// A figure of the library and of the steps against one that is given.
-fn figure<const N: usize, A: Copy + PartialEq + std::fmt::Debug + Into<proved::Answer>>(
+fn figure<const N: usize, A: Copy + PartialEq + std::fmt::Debug + Into<Answer>>(
     tally: &mut Tally,
-    ask: fn([u64; N], u64) -> u64,
+    ask: fn([u64; N]) -> Answer,
     step: fn([u64; N]) -> A,
     operands: [u64; N],
     expected: A,
 ) {
-    tally.same(operands, answer(|which| ask(operands, which)), expected.into());
+    tally.same(operands, ask(operands), expected.into());
     tally.same(operands, step(operands), expected);
 }
 
 /// Both ends of a figure in mg must round to the printed tonnes, within half a unit of the last printed place.
-fn tonnes(tally: &mut Tally, ask: fn([u64; 2], u64) -> u64, operands: [u64; 2], print: &str) {
+fn tonnes(tally: &mut Tally, ask: fn([u64; 2]) -> Answer, operands: [u64; 2], print: &str) {
     let places = print.split_once('.').expect("a printed decimal").1.len();
     let half = 10i128.pow(9 - places as u32) / 2;
-    for which in [1, 2] {
-        let mg = i128::from(ask(operands, which));
+    let ends = ask(operands).accepted();
+    for mg in ends.map(i128::from) {
         tally.holds((mg - decimal(print, 9)).abs() <= half, (operands, mg, print));
     }
-    let mg = ask(operands, 1);
+    let mg = ends[0];
     tally.remark += &format!("; {}.{:09} t, printed {print}", mg / 1_000_000_000, mg % 1_000_000_000);
 }
 
@@ -167,14 +167,14 @@ fn marked(report: &mut Report) {
         figure(tally, proved::mean, steps::mean, [400, 19881], Ok(71));
         figure(tally, proved::mean, steps::mean, [1, 49], Ok(70));
         figure(tally, proved::root, steps::root, [5, 100], Ok((7178370, 7178371)));
-        tally.same("red alder, d 300", proved::root([5, 300], 1), 111899718);
-        tally.same("red alder, d 301", proved::root([5, 301], 1), 112855665);
-        tally.same("oak crown, d 501", proved::crown([7, 501], 1), 273306566);
+        tally.same("red alder, d 300", proved::root([5, 300]).accepted()[0], 111899718);
+        tally.same("red alder, d 301", proved::root([5, 301]).accepted()[0], 112855665);
+        tally.same("oak crown, d 501", proved::crown([7, 501]).accepted()[0], 273306566);
         // The listing: 4 oaks of 60 cm stand for 24, with one height tree of 12.0 m.
-        let height_tree = proved::single_tariff(OAK, [60, 120], 1);
-        let line = proved::line_tariff([height_tree, 1], 1);
-        let d = proved::mean([4, 4 * 60 * 60], 1);
-        let trees = proved::trees([4, 6, 1], 1);
+        let [height_tree, _] = proved::single_tariff(OAK, [60, 120]).accepted();
+        let [line, _] = proved::line_tariff([height_tree, 1]).accepted();
+        let [d, _] = proved::mean([4, 4 * 60 * 60]).accepted();
+        let [trees, _] = proved::trees([4, 6, 1]).accepted();
         tally.same("the listing's d and trees", (d, trees), (600, 2400));
         let row = [trees, line, d, 101, 56, 7, 5];
         figure(tally, proved::row, steps::row, row, Ok((50288870208, 50288870425)));

@@ -1,0 +1,17 @@
+-- `fieldbook::figures::fieldbook_root` meets its contract: the figure's own promise, laid out.
+use Rattle.fieldbook.specs.Layout.{ends}
+use Rattle.fieldbook.proofs.Handed.{handed}
+use Rattle.fieldbook.proofs.figures.fieldbook_root.Statement.{statement}
+use Rattle.fieldbook.proofs.figures.fieldbook_root.Tie as tie
+
+root-requires : tie.Need-root-requires
+root-requires c κs = tt
+
+lay-biomass-requires : tie.Need-lay-biomass-requires
+lay-biomass-requires c κs = tt
+
+returns : tie.Need-returns
+returns c = handed ends (c .lay-biomass .ensures) (c .before .before .root .ensures)
+
+pub fieldbook-root-spec : {M : Type 1} → statement M
+fieldbook-root-spec = tie.close (tie.spec root-requires lay-biomass-requires returns)

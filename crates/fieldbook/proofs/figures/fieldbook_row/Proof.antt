@@ -1,0 +1,25 @@
+-- `fieldbook::figures::fieldbook_row` meets its contract: the figure's own promise, of the average tree that was put together, laid out.
+use mathlib.Core.Path.{_∙_, ap}
+use Rattle.biomass.specs.Tree as Tree
+use Rattle.fieldbook.specs.Layout.{ends}
+use Rattle.fieldbook.proofs.Handed.{handed}
+use Rattle.fieldbook.proofs.figures.fieldbook_row.Statement.{statement}
+use Rattle.fieldbook.proofs.figures.fieldbook_row.Tie as tie
+
+average-tree-requires : tie.Need-average-tree-requires
+average-tree-requires c κs = tt
+
+row-requires : tie.Need-row-requires
+row-requires c κs = tt
+
+lay-biomass-requires : tie.Need-lay-biomass-requires
+lay-biomass-requires c κs = tt
+
+returns : tie.Need-returns
+returns c =
+    let called = c .before .before in
+    handed ends (c .lay-biomass .ensures) (called .row .ensures ∙ ap (Tree.row _) (called .before .average-tree .ensures))
+
+pub fieldbook-row-spec : {M : Type 1} → statement M
+fieldbook-row-spec =
+    tie.close (tie.spec average-tree-requires row-requires lay-biomass-requires returns)

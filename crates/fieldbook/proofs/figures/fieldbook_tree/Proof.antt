@@ -1,0 +1,25 @@
+-- `fieldbook::figures::fieldbook_tree` meets its contract: the figure's own promise, of the average tree that was put together, laid out.
+use mathlib.Core.Path.{_∙_, ap}
+use Rattle.biomass.specs.Tree as Tree
+use Rattle.fieldbook.specs.Layout.{ends}
+use Rattle.fieldbook.proofs.Handed.{handed}
+use Rattle.fieldbook.proofs.figures.fieldbook_tree.Statement.{statement}
+use Rattle.fieldbook.proofs.figures.fieldbook_tree.Tie as tie
+
+average-tree-requires : tie.Need-average-tree-requires
+average-tree-requires c κs = tt
+
+tree-requires : tie.Need-tree-requires
+tree-requires c κs = tt
+
+lay-biomass-requires : tie.Need-lay-biomass-requires
+lay-biomass-requires c κs = tt
+
+returns : tie.Need-returns
+returns c =
+    let called = c .before .before in
+    handed ends (c .lay-biomass .ensures) (called .tree .ensures ∙ ap Tree.tree (called .before .average-tree .ensures))
+
+pub fieldbook-tree-spec : {M : Type 1} → statement M
+fieldbook-tree-spec =
+    tie.close (tie.spec average-tree-requires tree-requires lay-biomass-requires returns)

@@ -1,0 +1,47 @@
+# How the outside tests are built, for scripts that source this from the repository's root. All of it goes under
+# target/.
+work=target/tests
+library=target/staticlib/libfieldbook.a
+mkdir -p "$work"
+
+# Shows what a command writes only where it fails.
+quietly() { # COMMAND...
+    local log status
+    log=$(mktemp "$work/log.XXXXXX") || return
+    "$@" >"$log" 2>&1
+    status=$?
+    [ "$status" -eq 0 ] || cat "$log"
+    rm -f "$log"
+    return "$status"
+}
+
+# A step that no check can do without.
+need() { # NAME COMMAND...
+    quietly "${@:2}" || { echo "FAILED  $1" && return 1; }
+}
+
+# Building one of these proves its crate once more, so one that is newer than every file it is made of is kept.
+stale() { # BUILT CRATE...
+    [ ! -f "$1" ] || [ -n "$(find crates.txt "${@:2}" -newer "$1" -print -quit)" ]
+}
+
+build_library() {
+    ! stale "$library" crates/biomass crates/survey crates/fieldbook || need "the proved library" rt staticlib fieldbook
+}
+
+build_programs() { # PROGRAM...
+    local program old=()
+    for program; do
+        if stale "target/bin/$program" crates/biomass crates/survey "crates/$program"; then old+=("$program"); fi
+    done
+    [ "${#old[@]}" -eq 0 ] || need "the proved programs" rt check "${old[@]}"
+}
+
+cargo_in_work() { # COMMAND FOLDER ARGUMENT...
+    env CARGO_TARGET_DIR="$PWD/$work" cargo "$1" --offline --locked --manifest-path "$2/Cargo.toml" "${@:3}"
+}
+
+# The program `outside`, which then stands in the profile's folder.
+build_outside() { # PROFILE
+    need "the build of the outside tests" cargo_in_work build tests --profile "$1"
+}

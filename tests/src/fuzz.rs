@@ -1,0 +1,180 @@
+//! The library against `plain` over books by chance, as many as there is time for: the answer and every byte of the
+//! sheet. A book hangs on the seed of the run and on its number alone, whatever the time and however many cores there
+//! are.
+use crate::author::Author;
+use crate::changes::{Changer, Pool};
+use crate::library::{as_numbers, same_reading, total};
+use crate::program::{first_difference, Hex};
+use crate::random::Random;
+use crate::report::{Report, Tally};
+use crate::total::{LEAST_SHEET, ROW};
+use crate::{cores, plain, streams, totals};
+use std::fmt::{Debug, Display, Formatter};
+use std::panic::{catch_unwind, AssertUnwindSafe};
+use std::sync::atomic::{AtomicBool, AtomicU64, Ordering};
+use std::time::{Duration, Instant};
+
+/// What the check takes that every run of the tests makes.
+const SEED: u64 = 1;
+const SECONDS: u64 = 10;
+
+/// In so many seconds every answer is to be met.
+const LONG_ENOUGH: u64 = 10;
+
+/// How many books a core takes before it looks at the clock.
+const BATCH: u64 = 256;
+
+const LONGEST_SHEET: usize = 1_000;
+
+/// A sheet stands somewhere amid other bytes, with so many before it and after it at least.
+const MARGIN: usize = 64;
+const ROOM: usize = MARGIN + LONGEST_SHEET + 2 * MARGIN;
+
+pub fn run(report: &mut Report) {
+    report.check("fuzz, the library and a plain implementation over books by chance", |tally| {
+        let (compared, met) = fuzz(SEED, SECONDS);
+        tally.add(compared);
+        tally.same("answers that were never met", met.missing(), vec![]);
+        tally.remark = format!("; {met}");
+    });
+}
+
+/// Runs for so many seconds, and says on the last line what was met. True where nothing is wrong.
+pub fn alone(seed: u64, seconds: u64) -> bool {
+    let (mut tally, met) = fuzz(seed, seconds);
+    if seconds >= LONG_ENOUGH {
+        tally.same("answers that were never met", met.missing(), vec![]);
+    }
+    println!("{met}");
+    tally.is_good()
+}
+
+/// Every core takes the next numbers until the time is over or a book differs.
+fn fuzz(seed: u64, seconds: u64) -> (Tally, Met) {
+    let pool = Pool::new(seed);
+    let noise = streams::noise(&mut Random::new(!seed), 4, 4 * ROOM);
+    let next = AtomicU64::new(0);
+    let over = AtomicBool::new(false);
+    let end = Instant::now() + Duration::from_secs(seconds);
+    let shares = cores::all_at_once(|| {
+        let mut worker = Worker::new(seed, &pool, &noise);
+        while !over.load(Ordering::Relaxed) {
+            let from = next.fetch_add(BATCH, Ordering::Relaxed);
+            let good = (from..from + BATCH).all(|k| worker.book(k));
+            if !good || Instant::now() >= end {
+                over.store(true, Ordering::Relaxed);
+            }
+        }
+        (worker.tally, worker.met)
+    });
+    let mut all = (Tally::default(), Met::default());
+    for (tally, met) in shares {
+        all.0.add(tally);
+        all.1.add(met);
+    }
+    all
+}
+
+/// How often each answer was met, by the number of the refusal: 0 for none.
+#[derive(Default)]
+struct Met([u64; 17]);
+
+impl Met {
+    fn add(&mut self, other: Met) {
+        self.0.iter_mut().zip(other.0).for_each(|(times, more)| *times += more);
+    }
+
+    fn missing(&self) -> Vec<u64> {
+        [0].into_iter().chain(totals::NAMED).filter(|&number| self.0[number as usize] == 0).collect()
+    }
+}
+
+impl Display for Met {
+    fn fmt(&self, f: &mut Formatter) -> std::fmt::Result {
+        write!(f, "{} books, {} accepted, refused", self.0.iter().sum::<u64>(), self.0[0])?;
+        let mut numbers = totals::NAMED.iter();
+        numbers.try_for_each(|&number| write!(f, " {number}: {}", self.0[number as usize]))
+    }
+}
+
+/// What a difference is shown with: enough to make it again.
+struct Case<'a> {
+    seed: u64,
+    k: u64,
+    book: &'a [u8],
+    sheet: usize,
+}
+
+impl Debug for Case<'_> {
+    fn fmt(&self, f: &mut Formatter) -> std::fmt::Result {
+        write!(f, "{} {} {:?} sheet of {} bytes", self.seed, self.k, Hex(self.book), self.sheet)
+    }
+}
+
+struct Worker<'a> {
+    seed: u64,
+    changer: Changer<'a>,
+    noise: &'a [u8],
+    tally: Tally,
+    met: Met,
+}
+
+fn sheet_length(author: &mut Author) -> usize {
+    let any = author.random.between(0, LONGEST_SHEET as u64) as usize;
+    match author.random.between(0, 24) {
+        0 => author.one_of(&[0, 1, ROW, LEAST_SHEET - 1, any % LEAST_SHEET]),
+        1 | 2 => author.one_of(&[LEAST_SHEET + 1, LONGEST_SHEET, any.max(LEAST_SHEET)]),
+        _ => LEAST_SHEET,
+    }
+}
+
+impl<'a> Worker<'a> {
+    fn new(seed: u64, pool: &'a Pool, noise: &'a [u8]) -> Worker<'a> {
+        Worker { seed, changer: Changer::new(pool), noise, tally: Tally::default(), met: Met::default() }
+    }
+
+    /// Makes the book of a number and compares all of it. A trap of `plain` is a difference too.
+    fn book(&mut self, k: u64) -> bool {
+        self.changer.write(Random::new(self.seed).any().wrapping_add(k));
+        if catch_unwind(AssertUnwindSafe(|| self.compare(k))).is_err() {
+            let case = Case { seed: self.seed, k, book: self.changer.book(), sheet: 0 };
+            self.tally.holds(false, (case, "it broke off"));
+        }
+        self.tally.is_good()
+    }
+
+    fn compare(&mut self, k: u64) {
+        let author = self.changer.author();
+        let length = sheet_length(author);
+        let start = MARGIN + author.random.between(0, MARGIN as u64) as usize;
+        let from = author.random.between(0, (self.noise.len() - ROOM) as u64) as usize;
+        let places = self.changer.two_places();
+        let case = Case { seed: self.seed, k, book: self.changer.book(), sheet: length };
+        let before = &self.noise[from..from + ROOM];
+        let number = compare_totals(&mut self.tally, &case, before, start..start + length);
+        self.met.0[usize::from(number)] += 1;
+        for at in places {
+            same_reading(&mut self.tally, &case, case.book, at);
+        }
+    }
+}
+
+/// Totals a book by both, into sheets amid these bytes. What comes back is the number of the refusal.
+fn compare_totals(tally: &mut Tally, case: &Case, before: &[u8], sheet: std::ops::Range<usize>) -> u8 {
+    let [mut ours, mut theirs]: [[u8; ROOM]; 2] = [before.try_into().expect("as many bytes"); 2];
+    let answer = total(case.book, &mut ours[sheet.clone()]);
+    let expected = as_numbers(plain::total(case.book, &mut theirs[sheet.clone()]));
+    tally.same(case, answer, expected);
+    // The bytes around the sheets too: `plain` cannot reach those of its own.
+    let (at, [found, wanted]) = first_difference(&ours, &theirs);
+    tally.same((case, "from byte", at as i64 - sheet.start as i64), found, wanted);
+    let (number, [rows, trees, low, high, _]) = answer;
+    let end = sheet.start + ROW * rows as usize;
+    let kept = ours[..sheet.start] == before[..sheet.start] && ours[end..] == before[end..];
+    tally.holds(kept, (case, rows, "bytes that are not the rows' have changed"));
+    if number == 0 {
+        let close = low <= high && (low < high) == (trees > 0) && high <= low + 3 + trees / 1000;
+        tally.holds(close, (case, trees, low, high, "the gap"));
+    }
+    expected.0
+}
