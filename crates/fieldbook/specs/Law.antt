@@ -1,17 +1,18 @@
 -- What is proved of the layout.
 --     zero-is-totalled, zero-is-read, zero-is-written, zero-is-found, zero-is-figure, zero-is-tariff     0 is told of no refusal
+--     natural-wide, negative-wide      a signed operand stands in two's complement of 64 bits
 --     numbers-command, command-numbers      numbers stand for a command exactly where they are its numbers
 --     written-read, read-written      numbers that are written are read back, and those that are read are written as the same bytes
-use Prim.Native.Nat.{ℕ, _+_, _*_, _%_, _<_}
+use Prim.Native.Nat.{ℕ, _+_, _-_, _*_, _%_, _<_}
 use native.Mathlib.Nat.{mod-lt, mod-eq-of-lt, mul-add-mod-self-right}
 use native.Mathlib.Omega.{arith}
 use mathlib.Core.Path.{_≡_, _∙_, refl, sym, ap, ap₂, subst}
 use mathlib.Core.Bool.{Bool, true, false, cond, and-eq-true-iff, false≢true}
 use mathlib.Core.List.{List, [], _∷_}
 use lib.Dec.{eqb, ltb, leb}
-use lib.IntN.{ℤ}
+use lib.IntN.{ℤ, pos, negsuc}
 use lib.ListN.{length, getD}
-use borrow.Author.Tests.{eqb-true, eq-eqb}
+use borrow.Author.Tests.{lt-ltb, le-ltb, eqb-true, eq-eqb}
 use Rattle.biomass.specs.Report.{Report, refused, gives, _then_}
 use Rattle.biomass.specs.Law.Gives.{figure-is, number-is, test-passed, made}
 use Rattle.biomass.specs.Law.Declines.{Declines, Six, SixOrThirteen, gives-declines, unless-declines, then-declines, six-declines, six-or-thirteen-declines}
@@ -76,6 +77,13 @@ zero-is-totalled book sheet = by-answer (total book sheet) refl
     by-answer (refusedAt n at) e zero = absurd (false≢true (ap (λ (m : ℕ). isIn m ofTotalling) (sym zero) ∙ refusals-of-totalling book sheet n at e))
 
 -- ---- numbers and commands
+
+-- a number from 0 on is itself, and −(n + 1) is 2^64 − 1 − n
+pub natural-wide : (n : ℕ) → n < 2147483648 → extended (unsigned (pos n)) ≡ n
+natural-wide n small = rw lt-ltb
+
+pub negative-wide : (n : ℕ) → n < 2147483648 → extended (unsigned (negsuc n)) + n ≡ 18446744073709551615
+negative-wide n small = rw (le-ltb (4294967295 - n) 2147483648 (omega arith)) (omega arith)
 
 pub same-itself : (a : List ℕ) → same a a ≡ true
 same-itself [] = refl

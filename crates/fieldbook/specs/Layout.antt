@@ -1,5 +1,5 @@
 -- How answers and refusals are laid out for programs in other languages. Every function answers 0 or document 01's number of the refusal
--- (Law: zero-is-accepted). What it found is laid into the numbers that the caller lends, and where it is refused they are 0.
+-- (Law: zero-is-totalled and the like: 0 is told of no refusal). What it found is laid into the numbers that the caller lends, and where it is refused they are 0.
 use Prim.Native.Nat.{ℕ}
 use mathlib.Core.List.{List, [], _∷_}
 use Rattle.biomass.specs.Report.{Report, refused, gives, _then_}

@@ -13,7 +13,7 @@ use Rattle.survey.specs.declared.command.Command.{Command}
 use Rattle.survey.specs.declared.command.Command.the-variants.{Species, Factor, Open, Measured, Height, Close, End}
 use Rattle.fieldbook.specs.declared.commands.Made.{Made}
 
--- from 32 bits to 64: the upper half of the one is the uppermost part of the other
+-- from 32 bits to 64: the upper half of the one is the uppermost part of the other (Law: natural-wide, negative-wide: so it is two's complement)
 abbrev pub extended : ℕ → ℕ
 extended bits = cond (ltb bits 2147483648) bits (bits + 18446744069414584320)
 
@@ -76,7 +76,7 @@ same [] (y ∷ ys) = false
 same (x ∷ xs) [] = false
 same (x ∷ xs) (y ∷ ys) = eqb x y && same xs ys
 
--- It is the one whose numbers these are: 6 where one of them was cut, or should be 0. (Law: commandOf-numbers, numbers-commandOf: it is that one, and
--- there is no other.)
+-- It is the one whose numbers these are: 6 where one of them was cut, or should be 0. (Law: numbers-command, command-numbers: it is that one, and there
+-- is no other.)
 unfoldable pub commandOf : List ℕ → Report Command
 commandOf ns = cut ns then λ c. unless (same (numbers c) ns) 6 (gives c)
