@@ -1,9 +1,10 @@
 -- What is proved of the layout.
 --     zero-is-totalled, zero-is-read, zero-is-written, zero-is-found, zero-is-figure, zero-is-tariff     0 is told of no refusal
+--     told-again      the numbers of totalling say just what it answers
 --     natural-wide, negative-wide      a signed operand stands in two's complement of 64 bits
---     numbers-command, command-numbers      numbers stand for a command exactly where they are its numbers
+--     numbers-command, command-numbers, no-command      numbers stand for a command exactly where they are its numbers
 --     written-read, read-written      numbers that are written are read back, and those that are read are written as the same bytes
-use Prim.Native.Nat.{ℕ, _+_, _-_, _*_, _%_, _<_}
+use Prim.Native.Nat.{ℕ, zero, suc, _+_, _-_, _*_, _%_, _<_}
 use native.Mathlib.Nat.{mod-lt, mod-eq-of-lt, mul-add-mod-self-right}
 use native.Mathlib.Omega.{arith}
 use mathlib.Core.Path.{_≡_, _∙_, refl, sym, ap, ap₂, subst}
@@ -14,7 +15,7 @@ use lib.IntN.{ℤ, pos, negsuc}
 use lib.ListN.{length, getD}
 use borrow.Author.Tests.{lt-ltb, le-ltb, eqb-true, eq-eqb}
 use Rattle.biomass.specs.Report.{Report, refused, gives, _then_}
-use Rattle.biomass.specs.Law.Gives.{figure-is, number-is, test-passed, made}
+use Rattle.biomass.specs.Law.Gives.{never, figure-is, number-is, test-passed, made}
 use Rattle.biomass.specs.Law.Declines.{Declines, Six, SixOrThirteen, gives-declines, unless-declines, then-declines, six-declines, six-or-thirteen-declines}
 use Rattle.survey.specs.AsWritten.{isIn}
 use Rattle.survey.specs.Bytes.{AllBytes, signed, unsigned}
@@ -32,7 +33,7 @@ use Rattle.survey.specs.declared.command.Command.{Command}
 use Rattle.survey.specs.declared.command.Command.the-variants.{Species, Factor, Open, Measured, Height, Close, End}
 use Rattle.survey.specs.declared.total.Totals.{Totals}
 use Rattle.fieldbook.specs.Numbers.{extended, numbers, oneByte, twoBytes, fourBytes, speciesOf, cut, same, commandOf}
-use Rattle.fieldbook.specs.Layout.{refusal, bookRefusal, command, writeNumbers, bufferAfter}
+use Rattle.fieldbook.specs.Layout.{refusal, bookRefusal, totals, told, command, writeNumbers, bufferAfter}
 
 -- ---- 0 is told of no refusal
 
@@ -45,8 +46,8 @@ abbrev NotZero : ℕ → Type 0
 NotZero n = n ≡ 0 → ⊥
 
 zero-gives : {A : Type 0} (r : Report A) → Declines NotZero r → refusal r ≡ 0 → Given r
-zero-gives (refused n) declines zero = absurd (declines n refl zero)
-zero-gives (gives a) declines zero = record { figure = a; is = refl }
+zero-gives (refused n) declines none = absurd (declines n refl none)
+zero-gives (gives a) declines none = record { figure = a; is = refl }
 
 -- of the figures, which decline with 6, and the single tariff with 13 too (biomass's Law.Declines has each)
 pub zero-is-figure : {A : Type 0} (r : Report A) → Declines Six r → refusal r ≡ 0 → Given r
@@ -73,8 +74,17 @@ pub zero-is-totalled : (book sheet : List ℕ) → bookRefusal (total book sheet
 zero-is-totalled book sheet = by-answer (total book sheet) refl
   where
     by-answer : (a : Answer) → total book sheet ≡ a → bookRefusal a ≡ 0 → HasTotals a
-    by-answer (totalled t) e zero = record { totals = t; is = refl }
-    by-answer (refusedAt n at) e zero = absurd (false≢true (ap (λ (m : ℕ). isIn m ofTotalling) (sym zero) ∙ refusals-of-totalling book sheet n at e))
+    by-answer (totalled t) e none = record { totals = t; is = refl }
+    by-answer (refusedAt n at) e none = absurd (false≢true (ap (λ (m : ℕ). isIn m ofTotalling) (sym none) ∙ refusals-of-totalling book sheet n at e))
+
+-- so nothing is lost: what the numbers say is what totalling answers
+pub told-again : (book sheet : List ℕ) → told (bookRefusal (total book sheet)) (totals (total book sheet)) ≡ total book sheet
+told-again book sheet = by-answer (total book sheet) refl
+  where
+    by-answer : (a : Answer) → total book sheet ≡ a → told (bookRefusal a) (totals a) ≡ a
+    by-answer (totalled t) e = refl
+    by-answer (refusedAt zero at) e = absurd (false≢true (refusals-of-totalling book sheet 0 at e))
+    by-answer (refusedAt (suc n) at) e = refl
 
 -- ---- numbers and commands
 
@@ -143,6 +153,10 @@ pub command-numbers : (c : Command) → Fits c → commandOf (numbers c) ≡ giv
 unfolding commandOf
 command-numbers c fits = rw (cut-numbers c fits, same-itself (numbers c))
 
+-- so numbers that are declined are those of no command
+pub no-command : (ns : List ℕ) (n : ℕ) → commandOf ns ≡ refused n → (c : Command) → Fits c → numbers c ≡ ns → ⊥
+no-command ns n e c fits is = never (sym e ∙ ap commandOf (sym is) ∙ command-numbers c fits)
+
 -- what is cut to its width fits
 abbrev Fit : Report Command → Type 0
 Fit (refused n) = Unit
@@ -186,7 +200,7 @@ cut-declines ns =
     let b = getD ns 0 0 in
     let command : (k : ℕ) (c : Command) (rest : Report Command) → Declines NotZero rest → Declines NotZero (cond (eqb b k) (gives c) rest) =
     λ k c rest. cond-declines NotZero (eqb b k) (gives c) rest (gives-declines NotZero c) in
-    command 1 _ _ (command 2 _ _ (command 3 _ _ (command 4 _ _ (command 5 _ _ (command 6 _ _ (command 7 _ _ λ n e zero.
+    command 1 _ _ (command 2 _ _ (command 3 _ _ (command 4 _ _ (command 5 _ _ (command 6 _ _ (command 7 _ _ λ n e none.
     let two : 2 ≡ n = number-is e in
     omega arith))))))
 

@@ -1,7 +1,8 @@
 -- How answers and refusals are laid out for programs in other languages. Every function answers 0 or document 01's number of the refusal
 -- (Law: zero-is-totalled and the like: 0 is told of no refusal). What it found is laid into the numbers that the caller lends, and where it is refused they are 0.
-use Prim.Native.Nat.{ℕ}
+use Prim.Native.Nat.{ℕ, zero, suc}
 use mathlib.Core.List.{List, [], _∷_}
+use lib.ListN.{getD}
 use Rattle.biomass.specs.Report.{Report, refused, gives, _then_}
 use Rattle.biomass.specs.declared.units.BiomassRange.{BiomassRange}
 use Rattle.biomass.specs.declared.units.CarbonRange.{CarbonRange}
@@ -39,6 +40,16 @@ bookRefusal (totalled t) = 0
 abbrev pub totals : Answer → List ℕ
 totals (refusedAt n at) = 0 ∷ 0 ∷ 0 ∷ 0 ∷ at ∷ []
 totals (totalled t) = t .rows ∷ t .trees ∷ t .carbon .low .0 ∷ t .carbon .high .0 ∷ 0 ∷ []
+
+-- and what these numbers say: where 0 came back the totals, and else the refusal and its place (Law: told-again: just what totalling answers)
+abbrev pub told : ℕ → List ℕ → Answer
+told zero ns =
+    totalled (record {
+      rows = getD ns 0 0;
+      trees = getD ns 1 0;
+      carbon = record { low = record { 0 = getD ns 2 0 }; high = record { 0 = getD ns 3 0 } };
+    })
+told (suc n) ns = refusedAt (suc n) (getD ns 4 0)
 
 -- a row of the sheet: stratum, species, T, d, N, low and high
 abbrev pub rowNumbers : Row → List ℕ

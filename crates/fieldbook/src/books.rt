@@ -8,7 +8,7 @@ ghost use mathlib.Core.Path.{_≡_};
 ghost use Rattle.survey.specs.Sheet.{findRow};
 ghost use Rattle.survey.specs.Total.{total, sheetAfter};
 ghost use Rattle.survey.specs.Demand3.{Demanded};
-ghost use Rattle.fieldbook.specs.Layout.{refusal, bookRefusal, totals, row, rowNumbers};
+ghost use Rattle.fieldbook.specs.Layout.{refusal, bookRefusal, totals, told, row, rowNumbers};
 
 // Totals a book into a sheet of 800 bytes or more. The answer: rows, trees in hundredths, low and high in grams of carbon
 // dioxide, and the place of a refusal. Where the book is refused, the sheet is as it was.
@@ -17,7 +17,7 @@ pub extern "C" fn fieldbook_total(book: &[u8], sheet: &mut [u8], answer: &mut [u
     ensures refusal { λ r. ⌜ r ≡ bookRefusal (total (now (book .entry)) (now (sheet .entry))) ⌝ }
     ensures answer { λ _. ⌜ now (answer .exit) ≡ totals (total (now (book .entry)) (now (sheet .entry))) ⌝ }
     ensures laid { λ _. ⌜ now (sheet .exit) ≡ sheetAfter (now (book .entry)) (now (sheet .entry)) ⌝ }
-    ensures demand3 { λ _. ⌜ Demanded (now (book .entry)) (total (now (book .entry)) (now (sheet .entry))) ⌝ }
+    ensures demand3 { λ r. ⌜ Demanded (now (book .entry)) (told r (now (answer .exit))) ⌝ }
 {
     match total(book, sheet) {
         Totalled::Is(t) => {

@@ -11,7 +11,6 @@ use survey::writing::Written;
 use survey::writing::write;
 ghost use mathlib.Core.Path.{_≡_};
 ghost use Prim.Native.Nat.{_%_};
-ghost use Rattle.biomass.specs.Report.{_then_};
 ghost use Rattle.survey.specs.Bytes.{signed, unsigned};
 ghost use Rattle.survey.specs.Reading.{read, placeAfter};
 ghost use Rattle.fieldbook.specs.Numbers.{extended, numbers, speciesOf, cut, made, same, commandOf};

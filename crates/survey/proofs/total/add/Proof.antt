@@ -40,7 +40,7 @@ row-of c =
 
 -- which is one of the 32
 kept : (c : tie.In-loop Inv-loop μ-loop) → c .before .loop .i < length (c .before .before .args .t1)
-kept c = let room : c .before .loop .i < 32 = omega arith in omega arith
+kept c = omega arith
 
 -- the sum of the first rows grows by its figure
 grown : (c : tie.In-loop Inv-loop μ-loop) (figure : Row → ℕ) {sum : ℕ} → sum ≡ sumOf figure (take (c .before .loop .i) (c .before .before .args .t1))
