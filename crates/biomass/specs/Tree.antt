@@ -4,10 +4,10 @@ use mathlib.Core.Bool.{cond}
 use lib.Dec.{eqb}
 use Rattle.biomass.specs.Whole.{inside}
 use Rattle.biomass.specs.Report.{Report, gives, unless, _then_}
-use Rattle.biomass.specs.Ends.{between}
-use Rattle.biomass.specs.Stem.{stem}
-use Rattle.biomass.specs.Crown.{crown}
-use Rattle.biomass.specs.Root.{root}
+use Rattle.biomass.specs.Ends.{between, range}
+use Rattle.biomass.specs.Stem.{stemEnds, stem}
+use Rattle.biomass.specs.Crown.{crownEnds, crown}
+use Rattle.biomass.specs.Root.{rootEnds, root}
 use Rattle.biomass.specs.declared.units.BiomassRange.{BiomassRange}
 use Rattle.biomass.specs.declared.tree.AverageTree.{AverageTree}
 
@@ -19,7 +19,12 @@ averageTree T d f s g h = record { tariff = T; d = d; factor = f; gravity = s; c
 abbrev pub added : BiomassRange → BiomassRange → BiomassRange → BiomassRange
 added s c r = between (s .low .0 + c .low .0 + r .low .0) (s .high .0 + c .high .0 + r .high .0)
 
--- what one part declines, the tree declines
+-- of one tree: steps 4 to 6 with no range checked
+abbrev pub treeOf : AverageTree → BiomassRange
+treeOf t =
+    added (range (stemEnds (t .tariff) (t .d) (t .factor) (t .gravity))) (range (crownEnds (t .crown) (t .d))) (range (rootEnds (t .root) (t .d)))
+
+-- with the ranges checked: what one part declines, the tree declines
 unfoldable pub tree : AverageTree → Report BiomassRange
 tree t =
     stem (t .tariff) (t .d) (t .factor) (t .gravity) then λ s.

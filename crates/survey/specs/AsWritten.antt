@@ -1,5 +1,6 @@
--- Document 01's text with no refusal but those that it names. Applying a command to a valid survey gives just this (Law.AsWritten), and every book
--- plays to what it plays to by this text (Law.Playing: play-as-written): the checks that Line and Survey have besides decline only what no book reaches.
+-- Document 01's text with no refusal but those that it names: the rules by which a book is totalled (Total) and by which its lines are closed (Closings).
+-- The code has checks besides (Line, Survey: `apply`). Applying a command to a valid survey gives just this (Law.AsWritten), and every book plays to what
+-- it plays to by this text (Law.Playing: play-as-written), so that those checks decline only what no book reaches.
 use Prim.Native.Nat.{ℕ, _+_, _/_}
 use mathlib.Core.Bool.{Bool, true, false, cond}
 use mathlib.Core.List.{List, [], _∷_}
@@ -8,8 +9,8 @@ use Rattle.biomass.specs.Whole.{inside}
 use Rattle.biomass.specs.Report.{Report, gives, unless, _then_}
 use Rattle.biomass.specs.Mean.{meanOf}
 use Rattle.biomass.specs.Trees.{treesOf}
-use Rattle.biomass.specs.Tree.{rowOf}
-use Rattle.biomass.specs.Law.Tree.{treeOf}
+use Rattle.biomass.specs.Tree.{treeOf, rowOf}
+use Rattle.biomass.specs.declared.tree.AverageTree.{AverageTree}
 use Rattle.survey.specs.Refusal.{when}
 use Rattle.survey.specs.Line.{withTrees, tariffOf, withHeight, emptyRow, rowWith, treeWith, factorFor}
 use Rattle.survey.specs.Survey.{withLine, withRow, declare, giveFactor, openLine, finish}
@@ -47,9 +48,16 @@ d-of l = meanOf (l .n) (l .squares)
 abbrev pub N-of : Line → ℕ
 N-of l = treesOf (l .n) (l .p) (l .q)
 
--- the row of steps 4 to 7, with f the factor
-abbrev pub workedRow : Line → ℕ → Row
-workedRow l f = rowWith l (T-of l) (d-of l) (N-of l) (rowOf (N-of l) (treeOf (treeWith (l .species) (T-of l) (d-of l) f)))
+-- "With f the factor at d div 10 cm and s the gravity": one tree of the survey's open line
+abbrev pub f-of : Survey → ℕ
+f-of s = factorFor (s .factors) (d-of (s .line))
+
+abbrev pub treeAt : Survey → AverageTree
+treeAt s = treeWith (s .line .species) (T-of (s .line)) (d-of (s .line)) (f-of s)
+
+-- the open line's row by steps 4 to 7
+abbrev pub workedRow : Survey → Row
+workedRow s = rowWith (s .line) (T-of (s .line)) (d-of (s .line)) (N-of (s .line)) (rowOf (N-of (s .line)) (treeOf (treeAt s)))
 
 -- "Closing: 10; then, where n > 0, 12 no height tree; 14 no factor for d div 10; 15 N over 100,000,000."
 unfoldable pub closeAsWritten : Survey → Report Survey
@@ -58,9 +66,9 @@ closeAsWritten s =
     (unless (s .active) 10
     (cond (eqb (s .line .n) 0) (gives (withRow s (emptyRow (s .line))))
     (when (eqb (s .line .heights) 0) 12
-    (when (eqb (factorFor (s .factors) (d-of (s .line))) 0) 14
+    (when (eqb (f-of s) 0) 14
     (unless (leb (N-of (s .line)) 100000000) 15
-    (gives (withRow s (workedRow (s .line) (factorFor (s .factors) (d-of (s .line)))))))))))
+    (gives (withRow s (workedRow s))))))))
 
 -- the other commands have no check that document 01 does not name
 abbrev pub asWritten : Command → Survey → Report Survey

@@ -10,12 +10,9 @@ use lib.IntN.{pos}
 use Rattle.biomass.specs.Fraction.{Fraction, whole, _⊕_, _⊗_, _over_, _≼_}
 use Rattle.biomass.specs.Exact.{Given, NotBelow, NotAbove, exactRow}
 use Rattle.biomass.specs.declared.tree.AverageTree.{AverageTree}
-use Rattle.survey.specs.Line.{factorFor, treeWith}
-use Rattle.survey.specs.Survey.{speciesAt}
-use Rattle.survey.specs.Playing.{Played, ended, stopped, play}
-use Rattle.survey.specs.Sheet.{rowsOf}
+use Rattle.survey.specs.AsWritten.{N-of, treeAt}
+use Rattle.survey.specs.Closings.{closingsOf}
 use Rattle.survey.specs.Total.{Answer, refusedAt, totalled}
-use Rattle.survey.specs.declared.row.Row.{Row}
 use Rattle.survey.specs.declared.survey.Survey.{Survey}
 
 -- ---- the lines of an accepted book
@@ -25,18 +22,14 @@ pub record Estimate : Type 0 where
   pub N : ℕ
   pub tree : AverageTree
 
--- "taking T, d, N, f and s of each line": T, d and N stand in its row; f is the factor at d div 10 cm, and s the gravity of its species
-abbrev pub estimate : Survey → Row → Estimate
-estimate s r =
-    record { N = r .trees; tree = treeWith (speciesAt s (r .species)) (r .tariff) (r .d) (factorFor (s .factors) (r .d)) }
+-- "taking T, d, N, f and s of each line": by steps 1 to 3 from what is noted of the survey's open line; f is the factor at d div 10 cm, and s the gravity
+-- of its species. A line with n = 0 has N = 0 by step 3 (Law.Closing: none-measured)
+abbrev pub estimate : Survey → Estimate
+estimate s = record { N = N-of (s .line); tree = treeAt s }
 
--- all lines of a book, in closing order; of a book that is not accepted, none
-abbrev pub estimates : Played → List Estimate
-estimates (ended s) = map (estimate s) (rowsOf s)
-estimates (stopped n at) = []
-
+-- all lines of a book that is accepted, in closing order
 unfoldable pub linesOf : List ℕ → List Estimate
-linesOf book = estimates (play book)
+linesOf book = map estimate (closingsOf book)
 
 -- "the N of all lines added"
 unfoldable pub added : List Estimate → ℕ

@@ -22,12 +22,15 @@
 --     Playing: kept-to-the-end                what every command keeps is kept to the end of the book
 --     Playing: end-at-length, one-at-length, place-of-command, place-in-book      a refused book stops at its end with 1 alone, and with any other number at one of its bytes
 --     Playing: play-as-written                a book comes to what it comes to by document 01's text alone
+--     Closing: closes-to, none-measured       closing leaves the row that the text gives for its line; without measured trees step 3 gives 0
+--     Closings: rows-are                      the rows of an accepted book are those of its closings, in their order
 --     Playing: play-of-list                   and a book given as its commands plays as they do
 --     Rows: rows-fit, rows-read-back          no figure of an accepted book's rows is cut off in the sheet, which gives the rows back
---     Total: total-as-written, sheet-as-written       the answer of totalling and the sheet are those of document 01's text alone
+--     Total: total-applied, sheet-applied     the answer of totalling and the sheet, which are those of document 01's text, are those of `apply`
 --     Total: refusals-of-totalling            and totalling is refused with 1, 2, 3 or 5 to 16
 --     Sums: sums-small, project-gives         the sums of 32 rows, and eleven times them, fit 64 bits
---     Demand3: demand3, demanded              demand 3, of every valid survey, and of what every book with every sheet is answered
+--     Demand3: demand3, demanded              demand 3, of up to 32 closings, and of what every book with every sheet is answered
+--     Demand3: trees-are                      "the N of all lines added" that comes back is that of demand 3's lines
 --     Demand3: total-den                      and its comparisons with the exact total are comparisons: no denominator is 0
 --     NotVacuous: some-not-above, some-not-below      demand 3 is not empty: whatever the lines, there are fractions not above and not below the powers,
 --     NotVacuous: totals-ordered, low-not-above-high      their totals are in order, and the low of every accepted book is not above its high
@@ -46,16 +49,18 @@ pub mod Checks
 pub mod Taken
 pub mod Declines
 -- surveys
+pub mod AsWritten
+pub mod Closing
 pub mod Once
 pub mod Limit
 pub mod Valid
-pub mod AsWritten
 pub mod Named
 pub mod Witness
 -- whole books, played from a fresh survey
 pub mod Playing
-pub mod Rows
+pub mod Closings
 pub mod Total
+pub mod Rows
 pub mod Sums
 pub mod Demand3
 pub mod NotVacuous

@@ -18,6 +18,7 @@ pub mod Line
 pub mod Survey
 pub mod Valid
 pub mod AsWritten
+pub mod Closings
 -- whole books: totalling, and demand 3
 pub mod Playing
 pub mod Noting

@@ -28,8 +28,8 @@ played p = by-outcome (p .outcome)
     by-outcome Outcome.Done = ended (p .survey)
     by-outcome (Outcome.Refused why) = stopped (number why) (p .at)
 
--- The rules by which a command is applied to a survey: `apply`, or document 01's bare text (AsWritten), by which each book comes to the same
--- (Law.Playing: play-as-written)
+-- The rules by which a command is applied to a survey: document 01's bare text (AsWritten), by which a book is totalled, or `apply`, which the code does
+-- and by which each book comes to the same (Law.Playing: play-as-written)
 abbrev pub Rules : Type 0
 Rules = Command → Survey → Report Survey
 
@@ -73,7 +73,7 @@ playFromBy rules book at s = playUpToBy rules (suc (length book)) book at s
 abbrev pub playBy : Rules → List ℕ → Played
 playBy rules book = playFromBy rules book 0 fresh
 
--- ---- a book is played by `apply`
+-- ---- the code plays a book by `apply`
 
 abbrev pub step : List ℕ → ℕ → Survey → Report (Survey × ℕ)
 step = stepBy apply

@@ -9,7 +9,8 @@ use Rattle.biomass.specs.Project.{projectOf}
 use Rattle.biomass.specs.declared.units.BiomassRange.{BiomassRange}
 use Rattle.survey.specs.Refusal.{number}
 use Rattle.survey.specs.Writing.{laidAt}
-use Rattle.survey.specs.Playing.{Played, ended, stopped, play}
+use Rattle.survey.specs.AsWritten.{asWritten}
+use Rattle.survey.specs.Playing.{Played, ended, stopped, playBy}
 use Rattle.survey.specs.Sheet.{rowsOf, sheetBytes}
 use Rattle.survey.specs.declared.row.Row.{Row}
 use Rattle.survey.specs.declared.total.Totals.{Totals}
@@ -70,8 +71,9 @@ answerOf (ended s) = totalled (totalOf (rowsOf s))
 abbrev pub answerInto : List ℕ → Played → Answer
 answerInto sheet p = cond (short sheet) (refusedAt 16 0) (answerOf p)
 
+-- the book is played by document 01's text
 unfoldable pub total : List ℕ → List ℕ → Answer
-total book sheet = answerInto sheet (play book)
+total book sheet = answerInto sheet (playBy asWritten book)
 
 -- "The sheet keeps every byte. On acceptance .. the rows stand from byte 0 on, and only the rows' bytes change."
 abbrev pub laidBy : List ℕ → Played → List ℕ
@@ -83,4 +85,4 @@ abbrev pub laidInto : List ℕ → Played → List ℕ
 laidInto sheet p = cond (short sheet) sheet (laidBy sheet p)
 
 unfoldable pub sheetAfter : List ℕ → List ℕ → List ℕ
-sheetAfter book sheet = laidInto sheet (play book)
+sheetAfter book sheet = laidInto sheet (playBy asWritten book)

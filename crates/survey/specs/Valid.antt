@@ -4,11 +4,9 @@ use mathlib.Core.Path.{_≡_}
 use mathlib.Core.Bool.{true, false}
 use mathlib.Core.List.{List, [], _∷_}
 use lib.ListN.{length, getD, take}
-use Rattle.biomass.specs.Report.{gives}
-use Rattle.biomass.specs.Ends.{between}
-use Rattle.biomass.specs.Tree.{row}
 use Rattle.biomass.specs.Law.Report.{Inside}
-use Rattle.survey.specs.Line.{emptyRow, factorAt, factorFor, treeWith}
+use Rattle.biomass.specs.Law.Tree.{RowBounds}
+use Rattle.survey.specs.Line.{emptyRow, factorAt}
 use Rattle.survey.specs.Survey.{speciesAt, declared, anyLine, opened, noLine}
 use Rattle.survey.specs.declared.command.Species.{Species}
 use Rattle.survey.specs.declared.row.Row.{Row}
@@ -39,24 +37,16 @@ pub record ValidLine (s : Survey) (l : Line) : Type 0 where
   -- no line of the same stratum and species was closed before
   pub first : opened (l .stratum) (l .id) s ≡ false
 
--- the row of a line without measured trees
-pub record EmptyRow (r : Row) : Type 0 where
-  pub tariff : r .tariff ≡ 0
-  pub d : r .d ≡ 0
-  pub trees : r .trees ≡ 0
-  pub biomass : r .biomass ≡ between 0 0
-
--- the row is what steps 4 to 7 give from its T, d and N and from the species and factors at hand
-pub record WorkedRow (s : Survey) (r : Row) : Type 0 where
-  pub is : row (r .trees) (treeWith (speciesAt s (r .species)) (r .tariff) (r .d) (factorFor (s .factors) (r .d))) ≡ gives (r .biomass)
-
-pub data RowFigures (s : Survey) (r : Row) : Type 0 where
-  empty : EmptyRow r → RowFigures s r
-  worked : WorkedRow s r → RowFigures s r
+-- a row's figures are within those of the greatest row
+pub record Within (r : Row) : Type 0 where
+  pub tariff : r .tariff ≤ 50
+  pub d : r .d ≤ 1000
+  pub trees : r .trees ≤ 100000000
+  pub biomass : RowBounds (r .trees) (r .biomass)
 
 pub record ValidRow (s : Survey) (r : Row) : Type 0 where
   pub is-declared : declared (r .species) s ≡ true
-  pub figures : RowFigures s r
+  pub figures : Within r
 
 -- no two rows are of the same stratum and species
 pub data Apart : List Row → Type 0 where

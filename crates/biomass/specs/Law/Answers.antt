@@ -12,10 +12,10 @@ use Rattle.biomass.specs.Ends.{range}
 use Rattle.biomass.specs.Stem.{stem, stemEnds}
 use Rattle.biomass.specs.Crown.{crown, crownEnds}
 use Rattle.biomass.specs.Root.{root, rootEnds}
-use Rattle.biomass.specs.Tree.{tree, row, rowOf}
+use Rattle.biomass.specs.Tree.{treeOf, tree, row, rowOf}
 use Rattle.biomass.specs.Project.{project, projectOf, greatestSum}
 use Rattle.biomass.specs.Law.Report.{Inside, true-inside}
-use Rattle.biomass.specs.Law.Tree.{Operands, treeOf}
+use Rattle.biomass.specs.Law.Tree.{Operands}
 use Rattle.biomass.specs.declared.units.BiomassRange.{BiomassRange}
 use Rattle.biomass.specs.declared.tree.AverageTree.{AverageTree}
 

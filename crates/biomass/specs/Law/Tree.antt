@@ -5,11 +5,10 @@ use native.Mathlib.Omega.{arith}
 use mathlib.Core.Path.{_≡_, sym, subst}
 use lib.Dec.{eqb·suc-zero}
 use Rattle.biomass.specs.Report.{gives}
-use Rattle.biomass.specs.Ends.{range}
 use Rattle.biomass.specs.Stem.{stem, stemEnds}
 use Rattle.biomass.specs.Crown.{crown, crownEnds}
 use Rattle.biomass.specs.Root.{root, rootEnds}
-use Rattle.biomass.specs.Tree.{tree, added, row, rowOf}
+use Rattle.biomass.specs.Tree.{treeOf, tree, row, rowOf}
 use Rattle.biomass.specs.Law.Report.{Inside}
 use Rattle.biomass.specs.Law.Gives.{passed, made}
 use Rattle.biomass.specs.Law.Ends.{Bounded}
@@ -29,11 +28,6 @@ pub record Operands (t : AverageTree) : Type 0 where
   pub gravity : Inside 1 (t .gravity) 100
   pub crown : Inside 0 (t .crown) 7
   pub root : Inside 0 (t .root) 5
-
--- The ends of its three parts, added
-abbrev pub treeOf : AverageTree → BiomassRange
-treeOf t =
-    added (range (stemEnds (t .tariff) (t .d) (t .factor) (t .gravity))) (range (crownEnds (t .crown) (t .d))) (range (rootEnds (t .root) (t .d)))
 
 -- A tree is answered where its operands are in their ranges (Law.Answers), and only there
 pub record TreeGives (t : AverageTree) (m : BiomassRange) : Type 0 where

@@ -1,9 +1,10 @@
 -- On a valid survey a command does just what document 01's text says: the checks that the definitions have besides never fail there, since what
 -- a valid line holds is in the ranges of the figures that are worked from it.
 use Prim.Native.Nat.{ℕ, _+_, _*_, _≤_, _<_, zero-le}
+use native.Mathlib.Nat.{mul-le-mul, mul-le-mul-left}
 use native.Mathlib.Omega.{arith}
 use mathlib.Core.Path.{_≡_, refl, sym, ap, subst}
-use mathlib.Core.Bool.{Bool, false}
+use mathlib.Core.Bool.{Bool, true, false}
 use lib.Dec.{leb, eqb}
 use borrow.Author.Tests.{leb-true, leb-false, le-leb, lt-leb, eqb-false}
 use Rattle.biomass.specs.Whole.{inside}
@@ -18,16 +19,23 @@ use Rattle.biomass.specs.Law.Mean.{mean-range}
 use Rattle.biomass.specs.Law.Tree.{Operands}
 use Rattle.biomass.specs.Law.Answers.{mean-answers, trees-answers, line-tariff-answers, row-answers}
 use Rattle.survey.specs.Refusal.{when}
-use Rattle.survey.specs.Line.{withTrees, measured, withHeight, tariffOf, height, emptyRow, treeWith, worked, lineRow, factorFor, wholeCm}
+use Rattle.survey.specs.Line.{withTrees, measured, withHeight, tariffOf, height, emptyRow, worked, lineRow, wholeCm}
 use Rattle.survey.specs.Survey.{withLine, withRow, measure, giveHeight, kept, close, apply}
-use Rattle.survey.specs.Valid.{ValidSpecies, ValidLine, Valid}
-use Rattle.survey.specs.AsWritten.{measureAsWritten, heightAsWritten, T-of, d-of, N-of, workedRow, closeAsWritten, asWritten}
+use Rattle.survey.specs.Valid.{ValidSpecies, Valid}
+use Rattle.survey.specs.AsWritten.{measureAsWritten, heightAsWritten, T-of, d-of, N-of, f-of, treeAt, workedRow, closeAsWritten, asWritten}
 use Rattle.survey.specs.Law.Checks.{when-same, unless-same, when-then, unless-then, cond-then, then-then, answered-then}
-use Rattle.survey.specs.Law.Valid.{squares-added}
 use Rattle.survey.specs.declared.command.Command.{Command}
 use Rattle.survey.specs.declared.row.Row.{Row}
 use Rattle.survey.specs.declared.line.Line.{Line}
 use Rattle.survey.specs.declared.survey.Survey.{Survey}
+
+-- each tree measured adds from 7² to 100² to S
+pub squares-added : (n S class count : ℕ) → Inside (49 * n) S (10000 * n) → Inside 7 class 100 →
+    Inside (49 * (n + count)) (S + count * (class * class)) (10000 * (n + count))
+squares-added n S class count before in-class =
+    let least : count * (7 * 7) ≤ count * (class * class) = mul-le-mul-left count (mul-le-mul (in-class .least) (in-class .least)) in
+    let most : count * (class * class) ≤ count * (100 * 100) = mul-le-mul-left count (mul-le-mul (in-class .most) (in-class .most)) in
+    omega arith
 
 measured-as-written : (class count : ℕ) (s : Survey) → Valid s → measure class count s ≡ measureAsWritten class count s
 unfolding measure measured measureAsWritten
@@ -60,10 +68,11 @@ height-as-written cm tenths s v =
     let fit : l .tariffs + T ≤ 50000 = omega arith in
     ap (λ (test : Bool). unless test 6 (gives (withHeight T l)) then f) (le-leb _ _ fit)))))
 
--- all that the tree of a valid line with measured trees, a height tree and a factor is worked from, in its ranges
-line-operands : (s : Survey) (l : Line) → Valid s → ValidLine s l → 1 ≤ l .n → 1 ≤ l .heights → 0 < factorFor (s .factors) (d-of l) →
-    Operands (treeWith (l .species) (T-of l) (d-of l) (factorFor (s .factors) (d-of l)))
-line-operands s l v vl trees heights factor =
+-- all that the tree of a valid survey's open line is worked from, in its ranges, where the line has measured trees, a height tree and a factor
+pub line-operands : (s : Survey) → Valid s → s .active ≡ true → 1 ≤ s .line .n → 1 ≤ s .line .heights → 0 < f-of s → Operands (treeAt s)
+line-operands s v is-open trees heights factor =
+    let l = s .line in
+    let vl = v .line is-open in
     let T-is = line-tariff-answers (l .tariffs) (l .heights) (record { least = heights; most = vl .heights }) (vl .tariffs) in
     let species : ValidSpecies (l .species) = subst ValidSpecies (sym (vl .species)) (v .species (l .id) (vl .is-declared)) in
     record {
@@ -80,14 +89,13 @@ row-kept : (r : Row) (s : Survey) → s .closed < 32 → kept r s ≡ gives (wit
 unfolding kept
 row-kept r s room = ap (λ (test : Bool). when test 11 (gives (withRow s r))) (lt-leb 32 (s .closed) room)
 
-not-zero : (n : ℕ) → eqb n 0 ≡ false → 1 ≤ n
+pub not-zero : (n : ℕ) → eqb n 0 ≡ false → 1 ≤ n
 not-zero n e = let other = eqb-false n 0 e in omega arith
 
 close-as-written : (s : Survey) → Valid s → close s ≡ closeAsWritten s
 unfolding close lineRow worked closeAsWritten
 close-as-written s v =
     let l = s .line in
-    let f = factorFor (s .factors) (d-of l) in
     let keep : Row → Report Survey = λ r. kept r s in
     when-same (s .ended) 5 _ _ (λ not-ended.
     unless-same (s .active) 10 _ _ (λ is-open.
@@ -98,15 +106,15 @@ close-as-written s v =
     when-then keep (eqb (l .heights) 0) 12 _ _ (λ some-heights.
     let heights : Inside 1 (l .heights) 1000 = record { least = not-zero (l .heights) some-heights; most = vl .heights } in
     answered-then keep (mean (l .n) (l .squares)) _ (mean-answers (l .n) (l .squares) n (vl .squares))
-    (when-then keep (eqb f 0) 14 _ _ (λ given.
+    (when-then keep (eqb (f-of s) 0) 14 _ _ (λ given.
     answered-then keep (trees (l .n) (l .p) (l .q)) _
     (trees-answers (l .n) (l .p) (l .q) (record { least = zero-le; most = vl .trees }) (vl .p) (vl .q))
     (unless-then keep (leb (N-of l) 100000000) 15 _ _ (λ small.
     answered-then keep (lineTariff (l .tariffs) (l .heights)) _ (line-tariff-answers (l .tariffs) (l .heights) heights (vl .tariffs))
-    (answered-then keep (row (N-of l) (treeWith (l .species) (T-of l) (d-of l) f)) _
-    (row-answers (N-of l) (treeWith (l .species) (T-of l) (d-of l) f) (record { least = zero-le; most = leb-true _ _ small })
-    (line-operands s l v vl (n .least) (heights .least) (not-zero f given)))
-    (row-kept (workedRow l f) s room))))))))))
+    (answered-then keep (row (N-of l) (treeAt s)) _
+    (row-answers (N-of l) (treeAt s) (record { least = zero-le; most = leb-true _ _ small })
+    (line-operands s v is-open (n .least) (heights .least) (not-zero (f-of s) given)))
+    (row-kept (workedRow s) s room))))))))))
 
 pub as-written : (c : Command) (s : Survey) → Valid s → apply c s ≡ asWritten c s
 as-written (Command.Species id species) s v = refl

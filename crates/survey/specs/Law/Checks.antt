@@ -32,9 +32,10 @@ when-gives false n rest e = record { test-is = refl; next = e }
 pub unless-gives : {A : Type 0} (test : Bool) (n : ℕ) (rest : Report A) {a : A} → unless test n rest ≡ gives a → Past test true rest (gives a)
 unless-gives test n rest e = let t = test-passed test n rest e in record { test-is = t .0; next = t .1 }
 
-pub cond-gives : {A X : Type 0} (test : Bool) (r q : Report A) {a : A} → cond test r q ≡ gives a → (r ≡ gives a → X) → (q ≡ gives a → X) → X
-cond-gives true r q e f g = f e
-cond-gives false r q e f g = g e
+pub cond-gives : {A X : Type 0} (test : Bool) (r q : Report A) {a : A} → cond test r q ≡ gives a
+    → (test ≡ true → r ≡ gives a → X) → (test ≡ false → q ≡ gives a → X) → X
+cond-gives true r q e f g = f refl e
+cond-gives false r q e f g = g refl e
 
 -- ---- what a check is declined with: its number where its test stops, and those of the rest where it does not (biomass's Declines has `unless`)
 

@@ -1,9 +1,9 @@
--- Demand 3, of every survey that is valid and so of every book that is accepted. Each row has it of its own line (biomass/specs/Law/Tree.antt and
--- Law/Exact.antt); rows added keep it, and 11/6000 of the sum, with 1 added to the high, keeps it too. A line without trees adds nothing to either side.
+-- Demand 3, of every book that is accepted. Each row has it of its own line (Law.Closing, by biomass/specs/Law/Tree.antt and Law/Exact.antt); rows added
+-- keep it, and 11/6000 of the sum, with 1 added to the high, keeps it too. A line without trees adds nothing to either side.
 use Prim.Native.Nat.{ℕ, zero, suc, _+_, _*_, _/_, _≤_, _<_, zero-le}
 use native.Mathlib.Nat.{mul-pos, zero-add}
 use native.Mathlib.Omega.{arith}
-use mathlib.Core.Path.{_≡_, _∙_, refl, sym, ap}
+use mathlib.Core.Path.{_≡_, _∙_, refl, sym, ap₂, subst}
 use mathlib.Core.Bool.{cond}
 use mathlib.Core.List.{List, [], _∷_, map}
 use lib.ListN.{length, getD, take}
@@ -19,46 +19,34 @@ use Rattle.biomass.specs.Law.Exact.{row-den, row-not-under, row-not-over}
 use Rattle.biomass.specs.declared.units.Grams.{Grams}
 use Rattle.survey.specs.Line.{emptyRow}
 use Rattle.survey.specs.Survey.{noLine}
-use Rattle.survey.specs.Valid.{WorkedRow, RowFigures, Valid}
-use Rattle.survey.specs.Playing.{Played, ended, stopped, play}
+use Rattle.survey.specs.Closings.{closingsOf, closingRow}
+use Rattle.survey.specs.Valid.{Within, Valid}
+use Rattle.survey.specs.AsWritten.{asWritten}
+use Rattle.survey.specs.Playing.{Played, ended, stopped, playBy, play}
 use Rattle.survey.specs.Sheet.{rowsOf}
-use Rattle.survey.specs.Total.{sumOf, treesOf, lowOf, highOf, totalOf, answerOf, total}
+use Rattle.survey.specs.Total.{sumOf, treesOf, lowOf, highOf, totalled, totalOf, answerOf, total}
 use Rattle.survey.specs.Demand3.{Estimate, estimate, linesOf, added, Each, Fractions, exactSum, exactTotal, Demand3, Demanded}
 use Rattle.survey.specs.Law.Sheet.{at-most-32}
 use Rattle.survey.specs.Law.Sums.{RowsSmall, sums-small}
-use Rattle.survey.specs.Law.Playing.{play-valid}
+use Rattle.survey.specs.Law.Playing.{play-valid, play-as-written}
+use Rattle.survey.specs.Law.Closings.{AllClosed, no-line, and-lines, all-lines-closed, rows-are}
 use Rattle.survey.specs.Law.Total.{of-answer}
-use Rattle.survey.specs.Law.Rows.{within}
 use Rattle.survey.specs.declared.row.Row.{Row}
 use Rattle.survey.specs.declared.survey.Survey.{Survey}
 
 -- ---- the rows
 
--- the rows of closed lines, one after the other
-data Closed (s : Survey) : List Row → Type 0 where
-  no-row : Closed s []
-  and-rows : (r : Row) (rs : List Row) → RowFigures s r → Closed s rs → Closed s (r ∷ rs)
-
-first-closed : (s : Survey) (n : ℕ) (l : List Row) → ((i : ℕ) → i < n → RowFigures s (getD l i (emptyRow noLine))) → Closed s (take n l)
-first-closed s zero l each = no-row
-first-closed s (suc n) [] each = no-row
-first-closed s (suc n) (r ∷ l) each = and-rows r (take n l) (each 0 (omega arith)) (first-closed s n l (λ i h. each (suc i) (omega arith)))
-
-rows-closed : (s : Survey) → Valid s → Closed s (rowsOf s)
-rows-closed s v = first-closed s (s .closed) (s .rows) (λ i h. v .rows i h .figures)
-
--- a row with trees is a worked one
-with-trees : {s : Survey} {r : Row} → 0 < r .trees → RowFigures s r → WorkedRow s r
-with-trees some (RowFigures.empty e) = absurd (omega (arith, e .trees))
-with-trees some (RowFigures.worked w) = w
-
-closed-small : {s : Survey} {rows : List Row} → Closed s rows → RowsSmall rows
-closed-small no-row = RowsSmall.none
-closed-small (and-rows r rs f c) = let w = within f in RowsSmall.more r rs (w .trees) (w .biomass .ordered) (w .biomass .small) (closed-small c)
+-- rows whose figures are within the greatest row
+within-small : (n : ℕ) (l : List Row) → ((i : ℕ) → i < n → Within (getD l i (emptyRow noLine))) → RowsSmall (take n l)
+within-small zero l each = RowsSmall.none
+within-small (suc n) [] each = RowsSmall.none
+within-small (suc n) (r ∷ l) each =
+    let w = each 0 (omega arith) in
+    RowsSmall.more r (take n l) (w .trees) (w .biomass .ordered) (w .biomass .small) (within-small n l (λ i h. each (suc i) (omega arith)))
 
 -- the rows of a valid survey are within those of the greatest row
 pub rows-small : (s : Survey) → Valid s → RowsSmall (rowsOf s)
-rows-small s v = closed-small (rows-closed s v)
+rows-small s v = within-small (s .closed) (s .rows) (λ i h. v .rows i h .figures)
 
 -- ---- the sums
 
@@ -67,19 +55,19 @@ record SumsNear (rows : List Row) : Type 0 where
   near : 100 * sumOf highOf rows ≤ 100 * sumOf lowOf rows + 54 * sumOf treesOf rows + 200 * length rows
   high-of-none : sumOf treesOf rows ≡ 0 → sumOf highOf rows ≡ 0
 
-sums-near : {s : Survey} {rows : List Row} → Closed s rows → SumsNear rows
+sums-near : {ss : List Survey} → AllClosed ss → SumsNear (map closingRow ss)
 unfolding sumOf
-sums-near no-row = omega arith
-sums-near (and-rows r rs f c) =
-    let b = within f .biomass in
+sums-near no-line = omega arith
+sums-near (and-lines s ss r c) =
+    let b = r .within .biomass in
     let rest = sums-near c in
     record { near = omega arith; high-of-none = λ none. omega (arith, b .high-of-none (omega arith), rest .high-of-none (omega arith)) }
 
 -- "the N of all lines added" is that of the rows added
-added-is : (s : Survey) (rows : List Row) → added (map (estimate s) rows) ≡ sumOf treesOf rows
+added-is : {ss : List Survey} → AllClosed ss → added (map estimate ss) ≡ sumOf treesOf (map closingRow ss)
 unfolding sumOf added
-added-is s [] = refl
-added-is s (r ∷ rs) = ap (λ (n : ℕ). r .trees + n) (added-is s rs)
+added-is no-line = refl
+added-is (and-lines s ss r c) = ap₂ (λ (n m : ℕ). n + m) (sym (r .trees)) (added-is c)
 
 -- ---- "they are equal exactly when every N is 0", and "the high is at most the low + 3 + (the N of all lines added) div 1000"
 
@@ -128,33 +116,37 @@ pub total-den : (g : Fractions) (ls : List Estimate) → 0 < exactTotal g ls .de
 unfolding exactTotal
 total-den g ls = mul-pos (lit< tt) (sum-den g 0 ls)
 
--- a row without trees is 0 and is not in the exact sum; the others are compared one by one
-module _ (s : Survey) (g : Fractions) where
-  sum-not-under : {i : ℕ} {rows : List Row} → Closed s rows
-      → Each (λ i l. 0 < l .N → NotBelow (l .tree) (g .crown i) (g .root i)) i (map (estimate s) rows)
-      → whole (pos (sumOf lowOf rows)) ≼ exactSum g i (map (estimate s) rows)
+-- a line without trees has a row of 0 and is not in the exact sum; the others are compared one by one
+module _ (g : Fractions) where
+  sum-not-under : {i : ℕ} {ss : List Survey} → AllClosed ss
+      → Each (λ i l. 0 < l .N → NotBelow (l .tree) (g .crown i) (g .root i)) i (map estimate ss)
+      → whole (pos (sumOf lowOf (map closingRow ss))) ≼ exactSum g i (map estimate ss)
   unfolding sumOf exactSum
-  sum-not-under no-row each = ≼-refl (whole (pos 0))
-  sum-not-under (and-rows r rs f c) (Each.more i l ls h each) =
+  sum-not-under no-line each = ≼-refl (whole (pos 0))
+  sum-not-under (and-lines s ss r c) (Each.more i l ls h each) =
       let rest = sum-not-under c each in
-      none-or-some (λ (x : Fraction). whole (pos (lowOf r + sumOf lowOf rs)) ≼ x) (r .trees) _ _
-      (λ none. rw (within f .biomass .low-of-none none, zero-add) rest)
+      let low = lowOf (closingRow s) in
+      let lows = sumOf lowOf (map closingRow ss) in
+      none-or-some (λ (x : Fraction). whole (pos (low + lows)) ≼ x) (estimate s .N) _ _
+      (λ none. rw (r .within .biomass .low-of-none (r .trees ∙ none), zero-add) rest)
       (λ some.
-      let one = row-not-under (r .trees) (estimate s r .tree) (r .biomass) (with-trees some f .is) (g .crown i) (g .root i) (h some) in
-      rw (← whole-⊕ (pos (lowOf r)) (pos (sumOf lowOf rs))) (⊕-mono one rest))
+      let one = row-not-under (estimate s .N) (estimate s .tree) _ (r .worked some) (g .crown i) (g .root i) (h some) in
+      rw (← whole-⊕ (pos low) (pos lows)) (⊕-mono one rest))
 
-  sum-not-over : {i : ℕ} {rows : List Row} → Closed s rows
-      → Each (λ i l. 0 < l .N → NotAbove (l .tree) (g .crown i) (g .root i)) i (map (estimate s) rows)
-      → exactSum g i (map (estimate s) rows) ≼ whole (pos (sumOf highOf rows))
+  sum-not-over : {i : ℕ} {ss : List Survey} → AllClosed ss
+      → Each (λ i l. 0 < l .N → NotAbove (l .tree) (g .crown i) (g .root i)) i (map estimate ss)
+      → exactSum g i (map estimate ss) ≼ whole (pos (sumOf highOf (map closingRow ss)))
   unfolding sumOf exactSum
-  sum-not-over no-row each = ≼-refl (whole (pos 0))
-  sum-not-over (and-rows r rs f c) (Each.more i l ls h each) =
+  sum-not-over no-line each = ≼-refl (whole (pos 0))
+  sum-not-over (and-lines s ss r c) (Each.more i l ls h each) =
       let rest = sum-not-over c each in
-      none-or-some (λ (x : Fraction). x ≼ whole (pos (highOf r + sumOf highOf rs))) (r .trees) _ _
-      (λ none. rw (within f .biomass .high-of-none none, zero-add) rest)
+      let high = highOf (closingRow s) in
+      let highs = sumOf highOf (map closingRow ss) in
+      none-or-some (λ (x : Fraction). x ≼ whole (pos (high + highs))) (estimate s .N) _ _
+      (λ none. rw (r .within .biomass .high-of-none (r .trees ∙ none), zero-add) rest)
       (λ some.
-      let one = row-not-over (r .trees) (estimate s r .tree) (r .biomass) (with-trees some f .is) (g .crown i) (g .root i) (h some) in
-      rw (← whole-⊕ (pos (highOf r)) (pos (sumOf highOf rs))) (⊕-mono one rest))
+      let one = row-not-over (estimate s .N) (estimate s .tree) _ (r .worked some) (g .crown i) (g .root i) (h some) in
+      rw (← whole-⊕ (pos high) (pos highs)) (⊕-mono one rest))
 
 -- 11/6000 of what is not over the high sum, also where no line has trees and no 1 is added
 project-not-over : (L H N : ℕ) {x : Fraction} → (N ≡ 0 → H ≡ 0) → x ≼ whole (pos H)
@@ -169,33 +161,52 @@ project-not-over L H N {x} high-of-none h =
 
 -- ---- the demand
 
--- of the lines that a valid survey has closed
-pub demand3 : (s : Survey) → Valid s → Demand3 (map (estimate s) (rowsOf s)) (totalOf (rowsOf s) .carbon .low .0) (totalOf (rowsOf s) .carbon .high .0)
+-- of at most 32 lines that are closed, with the rows that they leave
+pub demand3 : (ss : List Survey) → AllClosed ss → RowsSmall (map closingRow ss) → length (map closingRow ss) ≤ 32
+    → Demand3 (map estimate ss) (totalOf (map closingRow ss) .carbon .low .0) (totalOf (map closingRow ss) .carbon .high .0)
 unfolding totalOf exactTotal
-demand3 s v =
-    let rows = rowsOf s in
+demand3 ss closed small number =
+    let rows = map closingRow ss in
     let L = sumOf lowOf rows in
     let H = sumOf highOf rows in
     let N = sumOf treesOf rows in
-    let closed = rows-closed s v in
     let b = sums-near closed in
-    let ordered : L ≤ H = sums-small rows (rows-small s v) .2 in
-    let number : length rows ≤ 32 = at-most-32 s v in
+    let ordered : L ≤ H = sums-small rows small .2 in
+    let is = added-is closed in
     record {
-      equal-only-when = λ e. each-none 0 (map (estimate s) rows) (added-is s rows ∙ none-of-equal L H N ordered e);
-      equal-when = λ each. equal-of-none L H N (sym (added-is s rows) ∙ none-added each);
-      gap = rw (added-is s rows) (project-gap L H N (length rows) number (b .near));
-      not-under-the-low = λ g each. share-not-under 11 6000 L (lit< tt) (sum-not-under s g closed each);
-      not-over-the-high = λ g each. project-not-over L H N (b .high-of-none) (sum-not-over s g closed each);
+      equal-only-when = λ e. each-none 0 (map estimate ss) (is ∙ none-of-equal L H N ordered e);
+      equal-when = λ each. equal-of-none L H N (sym is ∙ none-added each);
+      gap = rw is (project-gap L H N (length rows) number (b .near));
+      not-under-the-low = λ g each. share-not-under 11 6000 L (lit< tt) (sum-not-under g closed each);
+      not-over-the-high = λ g each. project-not-over L H N (b .high-of-none) (sum-not-over g closed each);
     }
 
 -- ---- of every book
 
-played-demanded : (book : List ℕ) (p : Played) → play book ≡ p → Demanded book (answerOf p)
-unfolding linesOf
-played-demanded book (stopped n at) e = tt
-played-demanded book (ended s) e = rw e (demand3 s (play-valid book s e))
+module _ (book : List ℕ) (s : Survey) (accepted : play book ≡ ended s) where
+  -- the survey that an accepted book comes to is valid (Law.Playing), and its rows are those of the book's closings (Law.Closings)
+  by-text : playBy asWritten book ≡ ended s
+  by-text = sym (play-as-written book) ∙ accepted
 
--- with every sheet, what is answered is as demanded: the survey that an accepted book comes to is valid (Law.Playing)
+  accepted-demanded : Demanded book (totalled (totalOf (rowsOf s)))
+  unfolding linesOf
+  accepted-demanded =
+      let v = play-valid book s accepted in
+      let rows = rowsOf s in
+      let are : rows ≡ map closingRow (closingsOf book) = rows-are book s by-text in
+      let small : RowsSmall (map closingRow (closingsOf book)) = subst RowsSmall are (rows-small s v) in
+      let number : length (map closingRow (closingsOf book)) ≤ 32 = subst (λ (rs : List Row). length rs ≤ 32) are (at-most-32 s v) in
+      rw are (demand3 (closingsOf book) (all-lines-closed book s by-text) small number)
+
+  -- and "the N of all lines added", which comes back, is that of these lines
+  pub trees-are : totalOf (rowsOf s) .trees ≡ added (linesOf book)
+  unfolding linesOf totalOf
+  trees-are = rw (rows-are book s by-text) (sym (added-is (all-lines-closed book s by-text)))
+
+played-demanded : (book : List ℕ) (p : Played) → play book ≡ p → Demanded book (answerOf p)
+played-demanded book (stopped n at) e = tt
+played-demanded book (ended s) e = accepted-demanded book s e
+
+-- with every sheet, what is answered is as demanded
 pub demanded : (book sheet : List ℕ) → Demanded book (total book sheet)
 demanded book sheet = of-answer book sheet (Demanded book) tt (played-demanded book)

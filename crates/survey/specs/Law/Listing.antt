@@ -1,7 +1,7 @@
 -- Totalling the listing gives what document 01 prints of it. All of the book is numbers, so reading it, applying its commands and working its rows compute:
 -- one equation gives the survey at its end (`listing-played`), and the answer, the sheet and the lines are read off it.
 use Prim.Native.Nat.{ℕ, _≤_}
-use mathlib.Core.Path.{_≡_, refl, ap}
+use mathlib.Core.Path.{_≡_, _∙_, refl}
 use mathlib.Core.Bool.{true, false}
 use mathlib.Core.List.{List, [], _∷_, _++_}
 use lib.ListN.{length, drop, set, replicate}
@@ -14,16 +14,19 @@ use Rattle.biomass.specs.Stem.{VL, VH, stemEnds, stem}
 use Rattle.biomass.specs.Crown.{crownEnds, crown}
 use Rattle.biomass.specs.Root.{rootEnds, root}
 use Rattle.biomass.specs.Tree.{tree, row}
-use Rattle.survey.specs.Book.{encodeAll}
+use Rattle.survey.specs.Book.{encodeAll, reachUpTo, reach}
 use Rattle.survey.specs.Reading.{speciesFrom, factorFrom, openFrom, measuredFrom, heightFrom, commandFrom, read}
 use Rattle.survey.specs.Writing.{laidAt}
 use Rattle.survey.specs.Line.{begun, measured, height, emptyRow, treeWith, worked, lineRow}
 use Rattle.survey.specs.Survey.{noLine, fresh, declare, giveFactor, opened, openLine, measure, giveHeight, kept, close, finish}
+use Rattle.survey.specs.AsWritten.{measureAsWritten, heightAsWritten, closeAsWritten}
+use Rattle.survey.specs.Closings.{closings, closingsOf}
 use Rattle.survey.specs.Playing.{ended, stepBy, playUpToBy, play}
 use Rattle.survey.specs.Sheet.{rowBytes, sheetBytes}
 use Rattle.survey.specs.Total.{totalled, sumOf, totalOf, total, sheetAfter}
-use Rattle.survey.specs.Demand3.{Estimate, estimates, linesOf}
+use Rattle.survey.specs.Demand3.{Estimate, linesOf}
 use Rattle.survey.specs.Listing.{listed, listing, listingTotals, row1, row2}
+use Rattle.survey.specs.Law.Total.{total-applied, sheet-applied}
 use Rattle.survey.specs.declared.survey.Survey.{Survey}
 
 -- ---- what the listing leaves
@@ -41,9 +44,9 @@ listingSurvey =
       ended = true;
     }
 
--- its lines, as demand 3 takes them. No factor was given at 0 cm
+-- its lines, as demand 3 takes them. The second has no trees, and what stands there for a tree (0 div 0, any d, no factor) is not in the exact value
 abbrev pub listingLines : List Estimate
-listingLines = record { N = 2400; tree = treeWith listed 26 600 101 } ∷ record { N = 0; tree = treeWith listed 0 0 0 } ∷ []
+listingLines = record { N = 2400; tree = treeWith listed 26 600 101 } ∷ record { N = 0; tree = treeWith listed 0 1000 0 } ∷ []
 
 -- ---- and that it does
 
@@ -58,15 +61,18 @@ listing-played = refl
 
 -- so its totals are those printed, on every sheet that is not too short
 pub listing-totalled : (sheet : List ℕ) → 800 ≤ length sheet → total listing sheet ≡ totalled listingTotals
-unfolding total totalOf sumOf listingSurvey
-listing-totalled sheet room = rw (le-ltb (length sheet) 800 room, listing-played)
+unfolding totalOf sumOf listingSurvey
+listing-totalled sheet room = total-applied listing sheet ∙ rw (le-ltb (length sheet) 800 room, listing-played)
 
 -- its two rows stand first in the sheet, and the rest of the sheet is as it was
 pub listing-sheet : (sheet : List ℕ) → 800 ≤ length sheet → sheetAfter listing sheet ≡ rowBytes row1 ++ rowBytes row2 ++ drop 50 sheet
-unfolding sheetAfter laidAt sheetBytes rowBytes listingSurvey
-listing-sheet sheet room = rw (le-ltb (length sheet) 800 room, listing-played)
+unfolding laidAt sheetBytes rowBytes listingSurvey
+listing-sheet sheet room = sheet-applied listing sheet ∙ rw (le-ltb (length sheet) 800 room, listing-played)
 
 -- and its lines are those two
 pub listing-lines : linesOf listing ≡ listingLines
-unfolding linesOf listingSurvey fresh
-listing-lines = ap estimates listing-played
+unfolding
+    listing encodeAll speciesFrom factorFrom openFrom measuredFrom heightFrom commandFrom read reachUpTo reach
+    fresh declare giveFactor opened openLine measureAsWritten heightAsWritten closeAsWritten finish
+    greatest meanOf singleTariff linesOf closingsOf closings
+listing-lines = refl

@@ -12,10 +12,10 @@ use Rattle.biomass.specs.Report.{refused}
 use Rattle.biomass.specs.Law.Report.{both-true}
 use Rattle.biomass.specs.Law.Declines.{Declines, gives-declines, unless-declines}
 use Rattle.survey.specs.Refusal.{number}
-use Rattle.survey.specs.Line.{emptyRow, factorFor}
+use Rattle.survey.specs.Line.{emptyRow}
 use Rattle.survey.specs.Survey.{withRow, close, apply}
 use Rattle.survey.specs.Valid.{Valid}
-use Rattle.survey.specs.AsWritten.{d-of, N-of, workedRow, closeAsWritten, numbersOf, isIn}
+use Rattle.survey.specs.AsWritten.{N-of, f-of, workedRow, closeAsWritten, numbersOf, isIn}
 use Rattle.survey.specs.Law.Checks.{when-declines, cond-declines}
 use Rattle.survey.specs.Law.Declines.{declare-declines, factor-declines, open-declines, measure-declines, height-declines, close-declines, finish-declines}
 use Rattle.survey.specs.Law.AsWritten.{as-written}
@@ -55,15 +55,14 @@ close-as-written-named : (s : Survey) → Declines (Named Command.Close) (closeA
 unfolding closeAsWritten
 close-as-written-named s =
     let l = s .line in
-    let f = factorFor (s .factors) (d-of l) in
     let such = Named Command.Close in
     when-declines such (s .ended) 5 _ (λ ended. refl) (λ not-ended.
     unless-declines such (s .active) 10 _ (λ none-open. refl) (λ is-open.
     cond-declines such (eqb (l .n) 0) _ _ (gives-declines such (withRow s (emptyRow l)))
     (when-declines such (eqb (l .heights) 0) 12 _ (λ none. refl) (λ heights.
-    when-declines such (eqb f 0) 14 _ (λ none. refl) (λ given.
+    when-declines such (eqb (f-of s) 0) 14 _ (λ none. refl) (λ given.
     unless-declines such (leb (N-of l) 100000000) 15 _ (λ over. refl) (λ few.
-    gives-declines such (withRow s (workedRow l f))))))))
+    gives-declines such (withRow s (workedRow s))))))))
 
 -- the refusals that document 01 does not name are unreachable
 pub only-named : (c : Command) (s : Survey) (n : ℕ) → Valid s → apply c s ≡ refused n → isIn n (numbersOf c) ≡ true

@@ -197,13 +197,20 @@ step-stops book at s n inside e = by-place (decLe (length book) at)
     by-place (yes none-left) = at-end (number-is (sym e ∙ step-at-end book at s none-left)) (omega arith)
     by-place (no some-left) = let before : at < length book = lt-of-not-le some-left in in-book (step-declines book at s before n e) before
 
+-- a book that is stopped is not played to its end, and is played to one survey
+pub is-stopped : {X : Type 0} {n at : ℕ} {s : Survey} → stopped n at ≡ ended s → X
+is-stopped e = let clash : _≡_ {A = ℕ} 0 1 = cc in absurd (omega arith)
+
+pub survey-is : {s t : Survey} → ended s ≡ ended t → s ≡ t
+survey-is e = cc
+
 -- what holds either way of a test, and whatever comes of a command
 module _ (P : Played → Type 0) where
-  cond-cases : (test : Bool) (p q : Played) → (test ≡ true → P p) → (test ≡ false → P q) → P (cond test p q)
+  pub cond-cases : (test : Bool) (p q : Played) → (test ≡ true → P p) → (test ≡ false → P q) → P (cond test p q)
   cond-cases true p q this other = this refl
   cond-cases false p q this other = other refl
 
-  met-cases : {A : Type 0} (at : ℕ) (r : Report A) (f : A → Played)
+  pub met-cases : {A : Type 0} (at : ℕ) (r : Report A) (f : A → Played)
       → ((n : ℕ) → r ≡ refused n → P (stopped n at)) → ((a : A) → r ≡ gives a → P (f a)) → P (met at r f)
   met-cases at (refused n) f stops goes-on = stops n refl
   met-cases at (gives a) f stops goes-on = goes-on a refl

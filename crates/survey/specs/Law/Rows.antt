@@ -1,4 +1,4 @@
--- No figure of a row is cut off in the sheet. T, d, N, low and high are within those of the greatest row, since steps 4 to 7 answered them (Law.Valid);
+-- No figure of a row is cut off in the sheet. T, d, N, low and high are within those of the greatest row, since steps 4 to 7 answered them (Law.Closing);
 -- a stratum is one byte of the book, and a species one of 16. So whoever reads the sheet finds the rows of the survey.
 use Prim.Native.Nat.{ℕ, _≤_, _<_}
 use native.Mathlib.Omega.{arith}
@@ -8,50 +8,26 @@ use lib.ListN.{length, getD}
 use lib.Seq.{getD-take}
 use borrow.Author.Tests.{le-ltb}
 use Rattle.biomass.specs.Report.{gives}
-use Rattle.biomass.specs.Law.Tree.{RowBounds, row-gives, row-bounds}
 use Rattle.survey.specs.Bytes.{AllBytes}
 use Rattle.survey.specs.Command.{Fits}
 use Rattle.survey.specs.Line.{emptyRow}
 use Rattle.survey.specs.Survey.{noLine, fresh, apply}
-use Rattle.survey.specs.Valid.{RowFigures, rowAt, Valid}
+use Rattle.survey.specs.Closings.{closingRow}
+use Rattle.survey.specs.Valid.{rowAt, Valid}
 use Rattle.survey.specs.Playing.{ended, play}
 use Rattle.survey.specs.Sheet.{rowsOf, findRow}
 use Rattle.survey.specs.Total.{sheetAfter}
 use Rattle.survey.specs.Law.RoundTrip.{read-is-encoded}
 use Rattle.survey.specs.Law.Sheet.{RowFits, row-reads-back, rows-number, at-most-32}
 use Rattle.survey.specs.Law.Checks.{declared-true}
-use Rattle.survey.specs.Law.Taken.{declare-gives, factor-gives, open-gives, measure-gives, height-gives, close-gives, finish-gives}
-use Rattle.survey.specs.Law.Valid.{always, fresh-valid, set-cases, worked-operands, row-of}
+use Rattle.survey.specs.Law.Taken.{declare-gives, factor-gives, open-gives, measure-gives, height-gives, finish-gives}
+use Rattle.survey.specs.Law.Closing.{closes-to}
+use Rattle.survey.specs.Law.Valid.{always, fresh-valid, set-cases}
 use Rattle.survey.specs.Law.Playing.{taken, step-valid, kept-to-the-end, play-valid}
+use Rattle.survey.specs.Law.Total.{sheet-applied}
 use Rattle.survey.specs.declared.command.Command.{Command}
 use Rattle.survey.specs.declared.row.Row.{Row}
 use Rattle.survey.specs.declared.survey.Survey.{Survey}
-
--- ---- the figures of a row
-
-pub record Within (r : Row) : Type 0 where
-  pub tariff : r .tariff ≤ 50
-  pub d : r .d ≤ 1000
-  pub trees : r .trees ≤ 100000000
-  pub biomass : RowBounds (r .trees) (r .biomass)
-
--- a worked row has the bounds that steps 4 to 7 give, and an empty one is 0 throughout
-pub within : {s : Survey} {r : Row} → RowFigures s r → Within r
-within {r} (RowFigures.empty e) =
-    record {
-      tariff = omega (arith, e .tariff);
-      d = omega (arith, e .d);
-      trees = omega (arith, e .trees);
-      biomass = subst (RowBounds (r .trees)) (sym (e .biomass)) (omega arith);
-    }
-within {s} {r} (RowFigures.worked w) =
-    let operands = worked-operands s r w in
-    record {
-      tariff = operands .tariff .most;
-      d = operands .d .most;
-      trees = row-gives (r .trees) _ (r .biomass) (w .is) .number .most;
-      biomass = row-bounds (r .trees) _ (r .biomass) (w .is);
-    }
 
 -- ---- strata are bytes
 
@@ -71,13 +47,12 @@ apply-strata (Command.Open stratum species p q) s t f v e k = subst Strata (sym 
 apply-strata (Command.Measured class count) s t f v e k = subst Strata (sym (measure-gives class count s t e .is)) k
 apply-strata (Command.Height cm tenths) s t f v e k = subst Strata (sym (height-gives cm tenths s t e .is)) k
 apply-strata Command.Close s t f v e k =
-    let g = close-gives s t e in
-    let own = row-of s (s .line) (g .row) (v .line (g .is-open) .species) (g .row-is) in
+    let g = closes-to s t v e in
     subst Strata (sym (g .is)) (
       k .0,
       λ i.
-          set-cases (λ (r : Row). r .stratum < 256) (s .rows) (s .closed) i (g .row) (emptyRow noLine) (omega (arith, v .places, g .room))
-          (λ same. omega (arith, own .stratum, k .0)) (λ other. k .1 i),
+          set-cases (λ (r : Row). r .stratum < 256) (s .rows) (s .closed) i (closingRow s) (emptyRow noLine) (omega (arith, v .places, g .room))
+          (λ same. omega (arith, g .row .stratum, k .0)) (λ other. k .1 i),
     )
 apply-strata Command.End s t f v e k = subst Strata (sym (finish-gives s t e .is)) k
 
@@ -98,7 +73,7 @@ module _ (book : List ℕ) (s : Survey) (all : AllBytes book) (accepted : play b
   pub rows-fit : (i : ℕ) → i < s .closed → RowFits (rowAt s i)
   rows-fit i inside =
       let r = kept .0 .rows i inside in
-      let w = within (r .figures) in
+      let w = r .figures in
       record {
         stratum = kept .1 .1 i;
         species = omega (arith, declared-true (rowAt s i .species) s (r .is-declared) .in-table);
@@ -112,10 +87,9 @@ module _ (book : List ℕ) (s : Survey) (all : AllBytes book) (accepted : play b
 -- the sheet of an accepted book gives its rows back, the i-th by its number
 pub rows-read-back : (book sheet : List ℕ) (s : Survey) → AllBytes book → play book ≡ ended s → 800 ≤ length sheet
     → (i : ℕ) → i < s .closed → findRow (sheetAfter book sheet) i ≡ gives (rowAt s i)
-unfolding sheetAfter
 rows-read-back book sheet s all accepted room i inside =
     let v = play-valid book s accepted in
     let z = emptyRow noLine in
     let is : getD (rowsOf s) i z ≡ rowAt s i = getD-take (s .closed) (s .rows) i z inside in
-    rw (le-ltb (length sheet) 800 room, accepted, ← is)
+    rw (sheet-applied book sheet, le-ltb (length sheet) 800 room, accepted, ← is)
     (row-reads-back sheet (rowsOf s) (omega (arith, at-most-32 s v)) i z (omega (arith, rows-number s v)) (rw is (rows-fit book s all accepted i inside)))

@@ -1,28 +1,28 @@
--- What totalling can answer, of any book and any sheet: what document 01's text makes of the book; and where it is refused, 16, or what the book itself
+-- What totalling can answer, of any book and any sheet: what playing the book comes to; and where it is refused, 16, or what the book itself
 -- is refused with (Law.Playing).
 use Prim.Native.Nat.{ℕ}
-use mathlib.Core.Path.{_≡_, refl, ap, subst}
+use mathlib.Core.Path.{_≡_, refl, sym, ap, subst}
 use mathlib.Core.Bool.{Bool, true, false, cond}
 use mathlib.Core.List.{List, [], _∷_}
-use Rattle.survey.specs.AsWritten.{asWritten, isIn}
-use Rattle.survey.specs.Playing.{Played, ended, stopped, playBy, play}
+use Rattle.survey.specs.AsWritten.{isIn}
+use Rattle.survey.specs.Playing.{Played, ended, stopped, play}
 use Rattle.survey.specs.Total.{Answer, refusedAt, totalled, short, answerOf, answerInto, total, laidInto, sheetAfter}
 use Rattle.survey.specs.Law.Named.{in-other}
 use Rattle.survey.specs.Law.Playing.{inTheBook, stop-cases, play-stops, play-as-written}
 
--- "a book is accepted exactly when those rules accept it" (demand 2): what totalling answers, and the sheet afterwards, are the text's
-pub total-as-written : (book sheet : List ℕ) → total book sheet ≡ answerInto sheet (playBy asWritten book)
+-- "a book is accepted exactly when those rules accept it" (demand 2): totalling is defined by document 01's text, and playing the book by `apply`, with the
+-- checks that it has besides, comes to the same answer and the same sheet
+pub total-applied : (book sheet : List ℕ) → total book sheet ≡ answerInto sheet (play book)
 unfolding total
-total-as-written book sheet = ap (answerInto sheet) (play-as-written book)
+total-applied book sheet = ap (answerInto sheet) (sym (play-as-written book))
 
-pub sheet-as-written : (book sheet : List ℕ) → sheetAfter book sheet ≡ laidInto sheet (playBy asWritten book)
+pub sheet-applied : (book sheet : List ℕ) → sheetAfter book sheet ≡ laidInto sheet (play book)
 unfolding sheetAfter
-sheet-as-written book sheet = ap (laidInto sheet) (play-as-written book)
+sheet-applied book sheet = ap (laidInto sheet) (sym (play-as-written book))
 
 -- what holds of 16, and of whatever the book is played to, holds of the answer
 pub of-answer : (book sheet : List ℕ) (P : Answer → Type 0) → P (refusedAt 16 0) → ((p : Played) → play book ≡ p → P (answerOf p)) → P (total book sheet)
-unfolding total
-of-answer book sheet P of-16 of-played = by-length (short sheet)
+of-answer book sheet P of-16 of-played = subst P (sym (total-applied book sheet)) (by-length (short sheet))
   where
     by-length : (too-short : Bool) → P (cond too-short (refusedAt 16 0) (answerOf (play book)))
     by-length true = of-16

@@ -1,7 +1,6 @@
 -- The fresh survey is valid, and every command that is taken leaves a valid survey valid: what it notes has passed its checks, and what was noted
 -- before stays as it was (Law.Once).
 use Prim.Native.Nat.{ℕ, zero, suc, _+_, _*_, _≤_, _<_, zero-le}
-use native.Mathlib.Nat.{mul-le-mul, mul-le-mul-left}
 use native.Mathlib.Numerals.{add-one}
 use native.Mathlib.Decide.{ℕ-discrete}
 use native.Mathlib.Omega.{arith}
@@ -11,23 +10,20 @@ use mathlib.Core.Logic.{_≢_}
 use mathlib.Core.List.{List, [], _∷_, _++_}
 use lib.ListN.{length, getD, take, set, replicate, length-set, length-replicate}
 use lib.Seq.{getD-set-same, getD-set-other, take-suc-set}
-use lib.Dec.{leb, ltb, eqb}
+use lib.Dec.{ltb}
 use Rattle.biomass.specs.Whole.{inside}
 use Rattle.biomass.specs.Report.{Report, refused, gives}
-use Rattle.biomass.specs.Tariff.{lineTariff}
-use Rattle.biomass.specs.Mean.{mean}
-use Rattle.biomass.specs.Trees.{trees}
-use Rattle.biomass.specs.Tree.{row}
 use Rattle.biomass.specs.Law.Report.{Inside}
-use Rattle.biomass.specs.Law.Gives.{figure-is, made}
 use Rattle.biomass.specs.Law.Tariff.{single-tariff-range}
-use Rattle.biomass.specs.Law.Tree.{Operands, tree-gives, row-gives}
-use Rattle.survey.specs.Line.{lineWith, begun, withTrees, withHeight, emptyRow, treeWith, worked, lineRow, factorAt, factorFor, wholeCm}
-use Rattle.survey.specs.Survey.{undeclared, noLine, fresh, speciesAt, withSpecies, withFactors, withRow, declared, isLine, anyLine, opened, leaves, apply, reached}
-use Rattle.survey.specs.Valid.{ValidSpecies, ValidFactor, ValidLine, WorkedRow, RowFigures, ValidRow, Apart, none, more, rowAt, Valid}
-use Rattle.survey.specs.Law.Checks.{when-gives, unless-gives, cond-gives, declared-true, is-line-symmetric}
-use Rattle.survey.specs.Law.Taken.{declare-gives, factor-gives, open-gives, measure-gives, height-gives, close-gives, finish-gives}
-use Rattle.survey.specs.Law.Once.{species-stay, declared-stays, factors-stay, rows-stay}
+use Rattle.survey.specs.Line.{lineWith, begun, withTrees, withHeight, emptyRow, factorAt}
+use Rattle.survey.specs.Survey.{undeclared, noLine, fresh, speciesAt, withSpecies, withFactors, withRow, isLine, anyLine, opened, leaves, apply, reached}
+use Rattle.survey.specs.Closings.{closingRow}
+use Rattle.survey.specs.Valid.{ValidSpecies, ValidFactor, ValidLine, ValidRow, Apart, none, more, rowAt, Valid}
+use Rattle.survey.specs.Law.Checks.{declared-true, is-line-symmetric}
+use Rattle.survey.specs.Law.Taken.{declare-gives, factor-gives, open-gives, measure-gives, height-gives, finish-gives}
+use Rattle.survey.specs.Law.Once.{species-stay, declared-stays, rows-stay}
+use Rattle.survey.specs.Law.AsWritten.{squares-added}
+use Rattle.survey.specs.Law.Closing.{closes-to}
 use Rattle.survey.specs.declared.command.Species.{Species}
 use Rattle.survey.specs.declared.command.Command.{Command}
 use Rattle.survey.specs.declared.row.Row.{Row}
@@ -73,29 +69,9 @@ set-cases P l i j a d fits at-i elsewhere = by-cases (ℕ-discrete j i)
     by-cases (yes e) = subst P (sym (ap (λ (k : ℕ). getD (set l i a) k d) e ∙ getD-set-same l i a d fits)) (at-i e)
     by-cases (no other) = subst P (sym (getD-set-other l i j a d other)) (elsewhere other)
 
--- a worked row's tree was answered, so that what it is worked from is in its ranges
-pub worked-operands : (s : Survey) (r : Row) → WorkedRow s r
-    → Operands (treeWith (speciesAt s (r .species)) (r .tariff) (r .d) (factorFor (s .factors) (r .d)))
-worked-operands s r w = let g = row-gives (r .trees) _ (r .biomass) (w .is) in tree-gives _ (g .one) (g .one-is) .operands
-
--- a factor, too, was given
-has-factor : (s : Survey) (r : Row) → WorkedRow s r → 0 < factorFor (s .factors) (r .d)
-has-factor s r w = omega (arith, worked-operands s r w .factor)
-
 module _ (c : Command) (s t : Survey) (e : apply c s ≡ gives t) where
-  figures-stay : (r : Row) → declared (r .species) s ≡ true → RowFigures s r → RowFigures t r
-  figures-stay r h (RowFigures.empty x) = RowFigures.empty x
-  figures-stay r h (RowFigures.worked w) =
-      RowFigures.worked (record {
-        is = rw (species-stay c s t e (r .species) h, factors-stay c s t e (wholeCm (r .d)) (has-factor s r w)) (w .is);
-      })
-
   row-stays : (r : Row) → ValidRow s r → ValidRow t r
-  row-stays r v =
-      record {
-        is-declared = declared-stays c s t e (r .species) (v .is-declared);
-        figures = figures-stay r (v .is-declared) (v .figures);
-      }
+  row-stays r v = record { is-declared = declared-stays c s t e (r .species) (v .is-declared); figures = v .figures }
 
   -- the rows of the lines that were closed before
   old-rows : Valid s → (i : ℕ) → i < s .closed → ValidRow t (rowAt t i)
@@ -117,14 +93,6 @@ module _ (c : Command) (s t : Survey) (e : apply c s ≡ gives t) where
       }
 
 -- ---- the commands
-
--- each tree measured adds from 7² to 100² to S
-pub squares-added : (n S class count : ℕ) → Inside (49 * n) S (10000 * n) → Inside 7 class 100 →
-    Inside (49 * (n + count)) (S + count * (class * class)) (10000 * (n + count))
-squares-added n S class count before in-class =
-    let least : count * (7 * 7) ≤ count * (class * class) = mul-le-mul-left count (mul-le-mul (in-class .least) (in-class .least)) in
-    let most : count * (class * class) ≤ count * (100 * 100) = mul-le-mul-left count (mul-le-mul (in-class .most) (in-class .most)) in
-    omega arith
 
 -- the survey with another line, open or not, ended or not
 abbrev lined : Survey → Bool → Line → Bool → Survey
@@ -258,40 +226,6 @@ module _ (s : Survey) (v : Valid s) where
 
 -- ---- closing
 
--- the row that a line leaves is its own, and is empty or worked
-pub record RowOf (s : Survey) (l : Line) (r : Row) : Type 0 where
-  pub stratum : r .stratum ≡ l .stratum
-  pub species : r .species ≡ l .id
-  pub figures : RowFigures s r
-
-worked-row-of : (s : Survey) (l : Line) (r : Row) (T d N : ℕ) → l .species ≡ speciesAt s (l .id) →
-    worked l T d (factorFor (s .factors) d) N ≡ gives r → RowOf s l r
-unfolding worked
-worked-row-of s l r T d N species e =
-    let f = factorFor (s .factors) d in
-    let biomass = made (row N (treeWith (l .species) T d f)) _ e in
-    let is = subst (λ (x : Species). row N (treeWith x T d f) ≡ gives (biomass .figure)) species (biomass .gave) in
-    subst (RowOf s l) (figure-is (biomass .next)) (record { stratum = refl; species = refl; figures = RowFigures.worked (record { is = is }) })
-
-pub row-of : (s : Survey) (l : Line) (r : Row) → l .species ≡ speciesAt s (l .id) → lineRow (s .factors) l ≡ gives r → RowOf s l r
-unfolding lineRow
-row-of s l r species e =
-    cond-gives (eqb (l .n) 0) (gives (emptyRow l)) _ e
-    (λ none.
-    subst (RowOf s l) (figure-is none) (record {
-      stratum = refl;
-      species = refl;
-      figures = RowFigures.empty (record { tariff = refl; d = refl; trees = refl; biomass = refl });
-    }))
-    (λ some.
-    let heights = when-gives (eqb (l .heights) 0) 12 _ some in
-    let d = made (mean (l .n) (l .squares)) _ (heights .next) in
-    let factor = when-gives (eqb (factorFor (s .factors) (d .figure)) 0) 14 _ (d .next) in
-    let N = made (trees (l .n) (l .p) (l .q)) _ (factor .next) in
-    let small = unless-gives (leb (N .figure) 100000000) 15 _ (N .next) in
-    let T = made (lineTariff (l .tariffs) (l .heights)) _ (small .next) in
-    worked-row-of s l r (T .figure) (d .figure) (N .figure) species (T .next))
-
 either : (s t : Bool) → cond s true t ≡ false → (s ≡ false) × (t ≡ false)
 either true t e = absurd (true≢false e)
 either false t e = (refl, e)
@@ -313,15 +247,14 @@ apart-after r (more x l first a) h =
 close-valid : (s t : Survey) → Valid s → apply Command.Close s ≡ gives t → Valid t
 unfolding opened
 close-valid s t v e =
-    let g = close-gives s t e in
-    let r = g .row in
-    let l = s .line in
+    let g = closes-to s t v e in
+    let r = closingRow s in
     let vl = v .line (g .is-open) in
     let after = withRow s r in
     let e′ : apply Command.Close s ≡ gives after = e ∙ ap gives (g .is) in
     let fits : s .closed < length (s .rows) = omega (arith, v .places, g .room) in
-    let own = row-of s l r (vl .species) (g .row-is) in
-    let valid : ValidRow s r = record { is-declared = rw (own .species) (vl .is-declared); figures = own .figures } in
+    let own = g .row in
+    let valid : ValidRow s r = record { is-declared = rw (own .species) (vl .is-declared); figures = own .within } in
     let first : anyLine (r .stratum) (r .species) (take (s .closed) (s .rows)) ≡ false = rw (own .stratum, own .species) (vl .first) in
     subst Valid (sym (g .is)) (record {
       ids = v .ids;

@@ -26,6 +26,7 @@ use Rattle.survey.specs.Total.{Answer, refusedAt, totalled, total, sheet
 use Rattle.survey.specs.Demand3.{Fractions, NoneAbove, more, none, added, exactSum, exactTotal, Demand3, Demanded, linesOf}
 use Rattle.survey.specs.Listing.{species3, line2, listing, listingTotals, row1, row2}
 use Rattle.survey.specs.Law.Listing.{listingLines, listing-totalled, listing-sheet, listing-lines}
+use Rattle.survey.specs.Law.Total.{sheet-applied}
 use Rattle.survey.specs.declared.command.Command.{Command}
 use Rattle.survey.specs.declared.total.Totals.{Totals}
 
@@ -43,8 +44,8 @@ secondLine = encodeAll (species3 ∷ line2 ∷ Command.Close ∷ Command.End ∷
 second-sheet : (sheet : List ℕ) → 800 ≤ length sheet → sheetAfter secondLine sheet ≡ rowBytes row2 ++ drop 25 sheet
 unfolding
     secondLine encodeAll speciesFrom openFrom commandFrom read fresh declare opened openLine lineRow kept close finish stepBy playUpToBy play
-    sheetAfter laidAt sheetBytes rowBytes
-second-sheet sheet room = rw (le-ltb (length sheet) 800 room)
+    laidAt sheetBytes rowBytes
+second-sheet sheet room = sheet-applied secondLine sheet ∙ rw (le-ltb (length sheet) 800 room)
 
 -- ---- "Demand 2 shuts out all six."
 

@@ -12,6 +12,7 @@ use Rattle.survey.specs.Total.{Answer, refusedAt, answerOf, total, laidB
 use Rattle.survey.specs.Demand3.{Demanded}
 use Rattle.survey.specs.Law.Playing.{play-valid}
 use Rattle.survey.specs.Law.Sheet.{sheet-as-long}
+use Rattle.survey.specs.Law.Total.{total-applied, sheet-applied}
 use Rattle.survey.specs.Law.Demand3.{rows-small, demanded}
 use Rattle.survey.specs.Valid.{Valid}
 use Rattle.survey.specs.declared.refusal.Refusal.{Refusal}
@@ -30,10 +31,10 @@ module _ (book sheet : List ℕ) where
   no-room h = (rw lt-ltb, (rw lt-ltb, tt))
 
   room : {p : Played} {r : Answer} {x : List ℕ} → 800 ≤ length sheet → p ≡ play book → r ≡ answerOf p → x ≡ laidBy sheet p → Promised r x
-  unfolding total sheetAfter
-  room {r} enough is answers lays =
-      let answer : r ≡ total book sheet = answers ∙ ap answerOf is ∙ rw le-ltb in
-      (answer, (lays ∙ ap (laidBy sheet) is ∙ rw le-ltb, subst (Demanded book) (sym answer) (demanded book sheet)))
+  room {r} {x} enough is answers lays =
+      let answer : r ≡ total book sheet = answers ∙ ap answerOf is ∙ rw (total-applied book sheet, le-ltb) in
+      let laid : x ≡ sheetAfter book sheet = lays ∙ ap (laidBy sheet) is ∙ rw (sheet-applied book sheet, le-ltb) in
+      (answer, (laid, subst (Demanded book) (sym answer) (demanded book sheet)))
 
 -- what playing came to, by the outcome of the last command
 to-the-end : (p : Code.Played) → p .outcome ≡ Outcome.Done → ended (p .survey) ≡ played p

@@ -1,0 +1,42 @@
+-- The lines of a book are its closings. What a line comes to is what is noted of it, and the factors given, when it closes: the survey just before the
+-- command 06 that closes it, whose open line it is.
+use Prim.Native.Nat.{ℕ}
+use mathlib.Core.Bool.{cond}
+use mathlib.Core.List.{List, [], _∷_, _++_}
+use lib.Dec.{eqb}
+use Rattle.biomass.specs.Report.{Report, refused, gives}
+use Rattle.survey.specs.Book.{reach}
+use Rattle.survey.specs.Line.{emptyRow}
+use Rattle.survey.specs.Survey.{fresh}
+use Rattle.survey.specs.AsWritten.{workedRow, asWritten}
+use Rattle.survey.specs.declared.command.Command.{Command}
+use Rattle.survey.specs.declared.row.Row.{Row}
+use Rattle.survey.specs.declared.survey.Survey.{Survey}
+
+-- the closing that a command is, if it is one
+abbrev pub closing : Command → Survey → List Survey
+closing (Command.Species id species) s = []
+closing (Command.Factor cm factor) s = []
+closing (Command.Open stratum species p q) s = []
+closing (Command.Measured class count) s = []
+closing (Command.Height cm tenths) s = []
+closing Command.Close s = s ∷ []
+closing Command.End s = []
+
+abbrev pub ifTaken : Report Survey → (Survey → List Survey) → List Survey
+ifTaken (refused n) rest = []
+ifTaken (gives t) rest = rest t
+
+-- the closings of commands that are taken one after the other, by document 01's text, up to the first that is refused
+unfoldable pub closings : List Command → Survey → List Survey
+closings [] s = []
+closings (c ∷ cs) s = ifTaken (asWritten c s) λ t. closing c s ++ closings cs t
+
+-- those of the commands that a book reads as, from a fresh survey on: the lines of the book, "in closing order"
+unfoldable pub closingsOf : List ℕ → List Survey
+closingsOf book = closings (reach book 0 .commands) fresh
+
+-- the row that the open line leaves. "A line with n = 0 closes with tariff, d, N, low and high all 0"; the rows of an accepted book are those of its
+-- closings (Law.Closings: rows-are)
+unfoldable pub closingRow : Survey → Row
+closingRow s = cond (eqb (s .line .n) 0) (emptyRow (s .line)) (workedRow s)
