@@ -17,12 +17,12 @@ use borrow.Author.Tests.{lt-ltb, le-ltb, eqb-true, eq-eqb}
 use Rattle.biomass.specs.Report.{Report, refused, gives, _then_}
 use Rattle.biomass.specs.Law.Gives.{never, figure-is, number-is, test-passed, made}
 use Rattle.biomass.specs.Law.Declines.{Declines, Six, SixOrThirteen, gives-declines, unless-declines, then-declines, six-declines, six-or-thirteen-declines}
-use Rattle.survey.specs.AsWritten.{isIn}
 use Rattle.survey.specs.Bytes.{AllBytes, signed, unsigned}
 use Rattle.survey.specs.Command.{Fits, FitsFour, SpeciesFits}
 use Rattle.survey.specs.Reading.{read}
 use Rattle.survey.specs.Writing.{fitsAt, write}
-use Rattle.survey.specs.Sheet.{rowFrom, findRow}
+use Rattle.survey.specs.AsWritten.{isIn}
+use Rattle.survey.specs.Sheet.{rowLength, rowFrom, findRow}
 use Rattle.survey.specs.Total.{Answer, refusedAt, totalled, total}
 use Rattle.survey.specs.Law.Bytes.{unsigned-fits, signed-unsigned, signed-fits}
 use Rattle.survey.specs.Law.Checks.{cond-declines}
@@ -63,7 +63,7 @@ pub zero-is-found : (sheet : List ℕ) (i : ℕ) → refusal (findRow sheet i) �
 unfolding findRow
 zero-is-found sheet i =
     zero-gives (findRow sheet i)
-    (unless-declines NotZero (leb (25 * i + 25) (length sheet)) 1 _ (λ short e. omega arith) (λ long. gives-declines NotZero (rowFrom sheet (25 * i))))
+    (unless-declines NotZero (leb (rowLength * i + rowLength) (length sheet)) 1 _ (λ short e. omega arith) (λ long. gives-declines NotZero (rowFrom sheet (rowLength * i))))
 
 -- an answer that has totals
 pub record HasTotals (a : Answer) : Type 0 where

@@ -59,10 +59,10 @@ impl Digest {
             .species(line.species)
             .number(line.p as u64)
             .number(line.q as u64)
-            .wide(line.n)
-            .wide(line.squares)
-            .wide(line.heights)
-            .wide(line.tariffs)
+            .wide(line.tally.n)
+            .wide(line.tally.squares)
+            .wide(line.heights.number)
+            .wide(line.heights.tariffs)
     }
 
     // The 16 species and the 32 rows, two rows to a species.

@@ -6,6 +6,7 @@ use libc::STDOUT_FILENO;
 use survey::refusal::Refusal;
 use survey::row::Row;
 use survey::sheet::Found;
+use survey::sheet::SHEET_LENGTH;
 use survey::sheet::find_row;
 use survey::total::Totalled;
 use survey::total::Totals;
@@ -95,8 +96,7 @@ impl Output {
 }
 
 fn read_out(output: Output, book: &[u8]) -> Output {
-    // 32 rows of 25 bytes.
-    let mut sheet = [0u8; 800];
+    let mut sheet = [0u8; SHEET_LENGTH];
     match total(book, &mut sheet) {
         Totalled::Is(totals) => output.rows(&sheet, totals.rows).project(totals),
         Totalled::Refused { why, at } => output.refusal(why, at),

@@ -1,16 +1,12 @@
 -- The lines of a book are its closings. What a line comes to is what is noted of it, and the factors given, when it closes: the survey just before the
--- command 06 that closes it, whose open line it is.
+-- command 06 that closes it, whose open line it is. The rows of an accepted book are those of its closings (Law.Closings: rows-are).
 use Prim.Native.Nat.{ℕ}
-use mathlib.Core.Bool.{cond}
 use mathlib.Core.List.{List, [], _∷_, _++_}
-use lib.Dec.{eqb}
 use Rattle.biomass.specs.Report.{Report, refused, gives}
 use Rattle.survey.specs.Book.{reach}
-use Rattle.survey.specs.Line.{emptyRow}
 use Rattle.survey.specs.Survey.{fresh}
-use Rattle.survey.specs.AsWritten.{workedRow, asWritten}
+use Rattle.survey.specs.AsWritten.{asWritten}
 use Rattle.survey.specs.declared.command.Command.{Command}
-use Rattle.survey.specs.declared.row.Row.{Row}
 use Rattle.survey.specs.declared.survey.Survey.{Survey}
 
 -- the closing that a command is, if it is one
@@ -35,8 +31,3 @@ closings (c ∷ cs) s = ifTaken (asWritten c s) λ t. closing c s ++ closings cs
 -- those of the commands that a book reads as, from a fresh survey on: the lines of the book, "in closing order"
 unfoldable pub closingsOf : List ℕ → List Survey
 closingsOf book = closings (reach book 0 .commands) fresh
-
--- the row that the open line leaves. "A line with n = 0 closes with tariff, d, N, low and high all 0"; the rows of an accepted book are those of its
--- closings (Law.Closings: rows-are)
-unfoldable pub closingRow : Survey → Row
-closingRow s = cond (eqb (s .line .n) 0) (emptyRow (s .line)) (workedRow s)

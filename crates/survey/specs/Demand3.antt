@@ -9,25 +9,14 @@ use lib.Dec.{eqb}
 use lib.IntN.{pos}
 use Rattle.biomass.specs.Fraction.{Fraction, whole, _⊕_, _⊗_, _over_, _≼_}
 use Rattle.biomass.specs.Exact.{Given, NotBelow, NotAbove, exactRow}
-use Rattle.biomass.specs.declared.tree.AverageTree.{AverageTree}
-use Rattle.survey.specs.AsWritten.{N-of, treeAt}
+use Rattle.survey.specs.Line.{Estimate}
+use Rattle.survey.specs.Survey.{estimate}
 use Rattle.survey.specs.Closings.{closingsOf}
 use Rattle.survey.specs.Total.{Answer, refusedAt, totalled}
-use Rattle.survey.specs.declared.survey.Survey.{Survey}
 
 -- ---- the lines of an accepted book
 
--- a line: N, and its average tree with T, d, f and s and the groups of its species
-pub record Estimate : Type 0 where
-  pub N : ℕ
-  pub tree : AverageTree
-
--- "taking T, d, N, f and s of each line": by steps 1 to 3 from what is noted of the survey's open line; f is the factor at d div 10 cm, and s the gravity
--- of its species. A line with n = 0 has N = 0 by step 3 (Law.Closing: none-measured)
-abbrev pub estimate : Survey → Estimate
-estimate s = record { N = N-of (s .line); tree = treeAt s }
-
--- all lines of a book that is accepted, in closing order
+-- "taking T, d, N, f and s of each line": what is estimated of each line of a book that is accepted, in closing order
 unfoldable pub linesOf : List ℕ → List Estimate
 linesOf book = map estimate (closingsOf book)
 

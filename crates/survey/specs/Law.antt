@@ -7,10 +7,11 @@
 --     Reach: stops-there, reach-encoded       a book reads as far as its first refusal, and the bytes up to there are its commands' encoding
 --     Reach: stops-at-end, one-at-end         from a place not past its end it stops at its end with 1 alone, and with 1 nowhere else; `enough`, as in Playing
 --     Reach: read-all-reach, reach-of-list    reading it whole answers the same; a list's encoding reads to its end, as the list
---     Sheet: row-stands, rest-stays           the i-th row stands in its own 25 bytes of the sheet, and no byte past the rows changes
+--     Sheet: row-stands, rest-stays           the i-th row stands in its own bytes of the sheet, and no byte past the rows changes
 --     Sheet: row-reads-back                   a row that is laid is read back as it was
 --     Valid: fresh-valid, apply-valid         a fresh survey is valid, and every command keeps a survey so; `reached-valid`: so every one that commands reach is
 --     AsWritten: as-written                   of a valid survey, applying is document 01's text, with no refusal but those that it names
+--     AsWritten: row-of-none                  the row of a line with n = 0 has no figure above 0
 --     Named: only-named, never-other          the refusals of each command are those that document 01 names; of any survey, besides only 6 and 11
 --     Named: refusal-of-applying              the numbers of applying are 5 to 15
 --     Named: refusal-not-zero, refusal-from-five      and no refusal is taken for acceptance, nor for one of reading or writing
@@ -22,9 +23,10 @@
 --     Playing: kept-to-the-end                what every command keeps is kept to the end of the book
 --     Playing: end-at-length, one-at-length, place-of-command, place-in-book      a refused book stops at its end with 1 alone, and with any other number at one of its bytes
 --     Playing: play-as-written                a book comes to what it comes to by document 01's text alone
---     Closing: closes-to, none-measured       closing leaves the row that the text gives for its line; without measured trees step 3 gives 0
---     Closings: rows-are                      the rows of an accepted book are those of its closings, in their order
---     Playing: play-of-list                   and a book given as its commands plays as they do
+--     Playing: play-of-list, play-reads       a book given as its commands plays as they do, and one that is accepted as the commands that it reads as
+--     Closing: closes-to                      closing leaves the row of the open line, which steps 4 to 7 answer
+--     Closings: rows-are, rows-of-list        the rows of an accepted book, or of a list of commands, are those of its closings, in their order
+--     Closings: closings-of-list              and a list's book has the list's closings
 --     Rows: rows-fit, rows-read-back          no figure of an accepted book's rows is cut off in the sheet, which gives the rows back
 --     Total: total-applied, sheet-applied     the answer of totalling and the sheet, which are those of document 01's text, are those of `apply`
 --     Total: refusals-of-totalling            and totalling is refused with 1, 2, 3 or 5 to 16

@@ -16,9 +16,11 @@ pub mod Book
 -- lines and surveys
 pub mod Line
 pub mod Survey
-pub mod Valid
 pub mod AsWritten
 pub mod Closings
+-- what the code does of any survey, and what holds of those that a book reaches
+pub mod Apply
+pub mod Valid
 -- whole books: totalling, and demand 3
 pub mod Playing
 pub mod Noting

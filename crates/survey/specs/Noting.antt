@@ -5,7 +5,7 @@ use mathlib.Core.List.{List}
 use Rattle.biomass.specs.Report.{Report, refused, gives, _then_}
 use Rattle.survey.specs.Refusal.{number}
 use Rattle.survey.specs.Reading.{read}
-use Rattle.survey.specs.Line.{measured, height}
+use Rattle.survey.specs.Apply.{measured, height}
 use Rattle.survey.specs.declared.command.Command.{Command}
 use Rattle.survey.specs.declared.line.Line.{Line}
 use Rattle.survey.specs.declared.playing.Noting.{Noting}

@@ -9,7 +9,8 @@ use Rattle.biomass.specs.Report.{Report, refused, gives, _then_}
 use Rattle.survey.specs.Refusal.{number}
 use Rattle.survey.specs.Command.{encode}
 use Rattle.survey.specs.Reading.{read}
-use Rattle.survey.specs.Survey.{fresh, apply}
+use Rattle.survey.specs.Survey.{fresh}
+use Rattle.survey.specs.Apply.{apply}
 use Rattle.survey.specs.declared.survey.Survey.{Survey}
 use Rattle.survey.specs.declared.command.Command.{Command}
 use Rattle.survey.specs.declared.survey.Outcome.{Outcome}

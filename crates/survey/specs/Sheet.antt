@@ -11,6 +11,14 @@ use Rattle.survey.specs.declared.row.Row.{Row}
 use Rattle.survey.specs.declared.sheet.Found.{Found}
 use Rattle.survey.specs.declared.survey.Survey.{Survey}
 
+-- "A row is 25 bytes"
+abbrev pub rowLength : ℕ
+rowLength = 25
+
+-- "16 sheet under 800 bytes": room for the rows of 32 lines (Law.Sheet: room-for-all)
+abbrev pub sheetLength : ℕ
+sheetLength = 800
+
 unfoldable pub rowBytes : Row → List ℕ
 rowBytes r =
     bytes 1 (r .stratum)
@@ -31,7 +39,7 @@ rowsOf s = take (s .closed) (s .rows)
 
 -- ---- a row read back from a sheet. (Document 01 asks only that the rows stand there; whoever prints them reads them so.)
 
--- the row in the 25 bytes from a place on
+-- the row in the bytes from a place on
 unfoldable pub rowFrom : List ℕ → ℕ → Row
 rowFrom s at =
     record {
@@ -50,4 +58,4 @@ found (Found.Refused why) = refused (number why)
 
 -- the row with this number, counted from 0; 1 where the sheet ends before it does
 unfoldable pub findRow : List ℕ → ℕ → Report Row
-findRow s i = unless (leb (25 * i + 25) (length s)) 1 (gives (rowFrom s (25 * i)))
+findRow s i = unless (leb (rowLength * i + rowLength) (length s)) 1 (gives (rowFrom s (rowLength * i)))

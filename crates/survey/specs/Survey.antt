@@ -1,4 +1,5 @@
--- "Applying a command to a survey", refusal by refusal, in document 01's order.
+-- "Applying a command to a survey", refusal by refusal, in document 01's order and with no refusal but those that it names. The code has checks besides
+-- (Apply), which decline only surveys that no book reaches.
 use Prim.Native.Nat.{ℕ, _+_}
 use mathlib.Core.Bool.{Bool, true, false, cond}
 use mathlib.Core.List.{List, [], _∷_}
@@ -7,10 +8,10 @@ use lib.Dec.{leb, ltb, eqb}
 use lib.IntN.{pos}
 use Rattle.biomass.specs.Whole.{inside}
 use Rattle.biomass.specs.Report.{Report, refused, gives, unless, _then_}
+use Rattle.biomass.specs.declared.tree.AverageTree.{AverageTree}
 use Rattle.survey.specs.Refusal.{number, when}
-use Rattle.survey.specs.Line.{begun, measured, height, emptyRow, factorAt, lineRow}
+use Rattle.survey.specs.Line.{begun, withTrees, withHeight, tariffOf, T-of, d-of, N-of, factorAt, factorFor, treeWith, Estimate, noTrees, estimatedRow, emptyRow}
 use Rattle.survey.specs.declared.command.Species.{Species}
-use Rattle.survey.specs.declared.command.Command.{Command}
 use Rattle.survey.specs.declared.row.Row.{Row}
 use Rattle.survey.specs.declared.line.Line.{Line}
 use Rattle.survey.specs.declared.survey.Survey.{Survey}
@@ -39,6 +40,10 @@ leaves s (gives t) = record { survey = t; refusal = 0 }
 
 -- ---- the survey
 
+-- "Limits: 32 lines"
+abbrev pub mostLines : ℕ
+mostLines = 32
+
 -- what stands for a species that is not declared: a gravity is 1 to 100
 abbrev pub undeclared : Species
 undeclared = record { crown = 0; root = 0; gravity = 0; c1 = pos 0; c2 = pos 0; c3 = pos 0; c4 = pos 0 }
@@ -52,7 +57,7 @@ fresh =
     record {
       species = replicate 16 undeclared;
       factors = replicate 101 0;
-      rows = replicate 32 (emptyRow noLine);
+      rows = replicate mostLines (emptyRow noLine);
       closed = 0;
       active = false;
       line = noLine;
@@ -62,38 +67,38 @@ fresh =
 abbrev pub speciesAt : Survey → ℕ → Species
 speciesAt s id = getD (s .species) id undeclared
 
--- the survey with other species; other factors; another line; a line opened; a row more and the line closed; ended
-abbrev pub withSpecies : Survey → List Species → Survey
-withSpecies s l =
-    record { species = l; factors = s .factors; rows = s .rows; closed = s .closed; active = s .active; line = s .line; ended = s .ended }
+-- The same survey with something changed: its tables; its line, whether that is open, and whether the book has ended; its rows
+abbrev pub withTables : Survey → List Species → List ℕ → Survey
+withTables s species factors =
+    record { species = species; factors = factors; rows = s .rows; closed = s .closed; active = s .active; line = s .line; ended = s .ended }
 
-abbrev pub withFactors : Survey → List ℕ → Survey
-withFactors s l =
-    record { species = s .species; factors = l; rows = s .rows; closed = s .closed; active = s .active; line = s .line; ended = s .ended }
+abbrev pub withState : Survey → Bool → Line → Bool → Survey
+withState s active line ended =
+    record { species = s .species; factors = s .factors; rows = s .rows; closed = s .closed; active = active; line = line; ended = ended }
+
+abbrev pub withRows : Survey → List Row → ℕ → Survey
+withRows s rows closed =
+    record { species = s .species; factors = s .factors; rows = rows; closed = closed; active = s .active; line = s .line; ended = s .ended }
+
+-- a species and a factor given
+abbrev pub withSpecies : Survey → ℕ → Species → Survey
+withSpecies s id species = withTables s (set (s .species) id species) (s .factors)
+
+abbrev pub withFactor : Survey → ℕ → ℕ → Survey
+withFactor s cm factor = withTables s (s .species) (set (s .factors) cm factor)
+
+-- the line opened, noted on, and closed with a row more; the book ended
+abbrev pub withOpened : Survey → Line → Survey
+withOpened s l = withState s true l (s .ended)
 
 abbrev pub withLine : Survey → Line → Survey
-withLine s l =
-    record { species = s .species; factors = s .factors; rows = s .rows; closed = s .closed; active = s .active; line = l; ended = s .ended }
-
-abbrev pub withOpened : Survey → Line → Survey
-withOpened s l =
-    record { species = s .species; factors = s .factors; rows = s .rows; closed = s .closed; active = true; line = l; ended = s .ended }
+withLine s l = withState s (s .active) l (s .ended)
 
 abbrev pub withRow : Survey → Row → Survey
-withRow s r =
-    record {
-      species = s .species;
-      factors = s .factors;
-      rows = set (s .rows) (s .closed) r;
-      closed = s .closed + 1;
-      active = false;
-      line = s .line;
-      ended = s .ended;
-    }
+withRow s r = withRows (withState s false (s .line) (s .ended)) (set (s .rows) (s .closed) r) (s .closed + 1)
 
 abbrev pub withEnd : Survey → Survey
-withEnd s =
-    record { species = s .species; factors = s .factors; rows = s .rows; closed = s .closed; active = s .active; line = s .line; ended = true }
+withEnd s = withState s (s .active) (s .line) true
 
 -- ---- the commands. "5 the book has ended, first of all."
 
@@ -111,7 +116,7 @@ declare id species s =
     when (s .ended) 5
     (unless (speciesInRange id species) 6
     (when (declared id s) 7
-    (gives (withSpecies s (set (s .species) id species)))))
+    (gives (withSpecies s id species))))
 
 -- "whole cm (1, 7 to 100), factor in hundredths (1, 100 to 200)"
 unfoldable pub giveFactor : ℕ → ℕ → Survey → Report Survey
@@ -120,7 +125,7 @@ giveFactor cm factor s =
     (unless (inside 7 cm 100) 6
     (unless (inside 100 factor 200) 6
     (when (ltb 0 (factorAt (s .factors) cm)) 7
-    (gives (withFactors s (set (s .factors) cm factor))))))
+    (gives (withFactor s cm factor)))))
 
 -- "7 same stratum and species already opened": where no line is open, those opened are those closed, and each has its row
 abbrev pub isLine : ℕ → ℕ → Row → Bool
@@ -143,36 +148,59 @@ openLine stratum id p q s =
     (when (s .active) 9
     (unless (declared id s) 8
     (when (opened stratum id s) 7
-    (when (leb 32 (s .closed)) 11
+    (when (leb mostLines (s .closed)) 11
     (gives (withOpened s (begun stratum id (speciesAt s id) p q)))))))))
 
+-- "04 measured trees: class in cm (1, 7 to 100), count (2, 1 and up)." "1,000,000 measured trees .. a line"
 -- "Measured: 10 no line open; 6; 11 over the limit."
 unfoldable pub measure : ℕ → ℕ → Survey → Report Survey
 measure class count s =
     when (s .ended) 5
     (unless (s .active) 10
-    (measured class count (s .line) then λ l.
-    gives (withLine s l)))
+    (unless (inside 7 class 100) 6
+    (unless (leb 1 count) 6
+    (unless (leb (s .line .tally .n + count) 1000000) 11
+    (gives (withLine s (withTrees class count (s .line))))))))
 
+-- "05 height tree: cm (1, 10 to 100), height in tenths of a metre (2, 1 to 600)." "1,000 height trees a line"
 -- "Height: 10; 6; 13 tariff outside 1 to 50; 11."
 unfoldable pub giveHeight : ℕ → ℕ → Survey → Report Survey
 giveHeight cm tenths s =
     when (s .ended) 5
     (unless (s .active) 10
-    (height cm tenths (s .line) then λ l.
-    gives (withLine s l)))
+    (tariffOf (s .line .species) cm tenths then λ T.
+    when (leb 1000 (s .line .heights .number)) 11
+    (gives (withLine s (withHeight T (s .line))))))
 
--- "in closing order". The check declines a survey that no book reaches: a line open, and 32 closed
-unfoldable pub kept : Row → Survey → Report Survey
-kept r s = when (leb 32 (s .closed)) 11 (gives (withRow s r))
+-- "the factor at d div 10 cm" of the open line; 0: none was given
+abbrev pub f-of : Survey → ℕ
+f-of s = factorFor (s .factors) (d-of (s .line))
 
--- "Closing: 10; then, where n > 0, 12 no height tree; 14 no factor for d div 10; 15 N over 100,000,000."
+-- one tree of the open line, and as many as steps 1 to 3 give
+abbrev pub treeAt : Survey → AverageTree
+treeAt s = treeWith (s .line .species) (T-of (s .line)) (d-of (s .line)) (f-of s)
+
+abbrev pub someTrees : Survey → Estimate
+someTrees s = record { N = N-of (s .line); tree = treeAt s }
+
+-- "taking T, d, N, f and s of each line": what is estimated of the open line, from what is noted of it and the factors given
+unfoldable pub estimate : Survey → Estimate
+estimate s = cond (eqb (s .line .tally .n) 0) noTrees (someTrees s)
+
+-- the row that the open line leaves
+unfoldable pub closingRow : Survey → Row
+closingRow s = estimatedRow (s .line) (estimate s)
+
+-- "Closing: 10; then, where n > 0, 12 no height tree; 14 no factor for d div 10; 15 N over 100,000,000." "in closing order"
 unfoldable pub close : Survey → Report Survey
 close s =
     when (s .ended) 5
     (unless (s .active) 10
-    (lineRow (s .factors) (s .line) then λ r.
-    kept r s))
+    (cond (eqb (s .line .tally .n) 0) (gives (withRow s (closingRow s)))
+    (when (eqb (s .line .heights .number) 0) 12
+    (when (eqb (f-of s) 0) 14
+    (unless (leb (N-of (s .line)) 100000000) 15
+    (gives (withRow s (closingRow s))))))))
 
 -- "Ending: 9."
 unfoldable pub finish : Survey → Report Survey
@@ -180,17 +208,3 @@ finish s =
     when (s .ended) 5
     (when (s .active) 9
     (gives (withEnd s)))
-
-abbrev pub apply : Command → Survey → Report Survey
-apply (Command.Species id species) s = declare id species s
-apply (Command.Factor cm factor) s = giveFactor cm factor s
-apply (Command.Open stratum species p q) s = openLine stratum species p q s
-apply (Command.Measured class count) s = measure class count s
-apply (Command.Height cm tenths) s = giveHeight cm tenths s
-apply Command.Close s = close s
-apply Command.End s = finish s
-
--- the survey after a list of commands: a refused one leaves it as it was
-unfoldable pub reached : List Command → Survey → Survey
-reached [] s = s
-reached (c ∷ cs) s = reached cs (leaves s (apply c s) .survey)

@@ -11,7 +11,7 @@ use Rattle.survey.specs.Refusal.{number}
 use Rattle.survey.specs.Writing.{laidAt}
 use Rattle.survey.specs.AsWritten.{asWritten}
 use Rattle.survey.specs.Playing.{Played, ended, stopped, playBy}
-use Rattle.survey.specs.Sheet.{rowsOf, sheetBytes}
+use Rattle.survey.specs.Sheet.{sheetLength, sheetBytes, rowsOf}
 use Rattle.survey.specs.declared.row.Row.{Row}
 use Rattle.survey.specs.declared.total.Totals.{Totals}
 use Rattle.survey.specs.declared.total.Totalled.{Totalled}
@@ -60,7 +60,7 @@ totalOf rows =
 
 -- "16 sheet under 800 bytes, place 0"
 abbrev pub short : List ℕ → Bool
-short sheet = ltb (length sheet) 800
+short sheet = ltb (length sheet) sheetLength
 
 -- "then the first refusal met, with the place of its command."
 abbrev pub answerOf : Played → Answer

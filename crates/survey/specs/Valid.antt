@@ -6,10 +6,12 @@ use mathlib.Core.List.{List, [], _∷_}
 use lib.ListN.{length, getD, take}
 use Rattle.biomass.specs.Law.Report.{Inside}
 use Rattle.biomass.specs.Law.Tree.{RowBounds}
-use Rattle.survey.specs.Line.{emptyRow, factorAt}
-use Rattle.survey.specs.Survey.{speciesAt, declared, anyLine, opened, noLine}
+use Rattle.survey.specs.Line.{factorAt, emptyRow}
+use Rattle.survey.specs.Survey.{mostLines, noLine, speciesAt, declared, anyLine, opened}
 use Rattle.survey.specs.declared.command.Species.{Species}
 use Rattle.survey.specs.declared.row.Row.{Row}
+use Rattle.survey.specs.declared.line.Tally.{Tally}
+use Rattle.survey.specs.declared.line.Heights.{Heights}
 use Rattle.survey.specs.declared.line.Line.{Line}
 use Rattle.survey.specs.declared.survey.Survey.{Survey}
 
@@ -24,29 +26,34 @@ pub record ValidFactor (cm factor : ℕ) : Type 0 where
   pub whole-cm : Inside 7 cm 100
   pub hundredths : Inside 100 factor 200
 
+-- measured trees: up to 1,000,000, each of 7 to 100 cm
+pub record ValidTally (t : Tally) : Type 0 where
+  pub few : t .n ≤ 1000000
+  pub squares : Inside (49 * t .n) (t .squares) (10000 * t .n)
+
+-- height trees: up to 1,000, each with a tariff of 1 to 50
+pub record ValidHeights (h : Heights) : Type 0 where
+  pub few : h .number ≤ 1000
+  pub tariffs : Inside (h .number) (h .tariffs) (50 * h .number)
+
 -- an open line: its species is the survey's, and what is noted of it is within the limits
 pub record ValidLine (s : Survey) (l : Line) : Type 0 where
   pub is-declared : declared (l .id) s ≡ true
   pub species : l .species ≡ speciesAt s (l .id)
   pub p : Inside 1 (l .p) 100000000
   pub q : Inside 1 (l .q) 100000000
-  pub trees : l .n ≤ 1000000
-  pub squares : Inside (49 * l .n) (l .squares) (10000 * l .n)
-  pub heights : l .heights ≤ 1000
-  pub tariffs : Inside (l .heights) (l .tariffs) (50 * l .heights)
+  pub tally : ValidTally (l .tally)
+  pub heights : ValidHeights (l .heights)
   -- no line of the same stratum and species was closed before
   pub first : opened (l .stratum) (l .id) s ≡ false
 
 -- a row's figures are within those of the greatest row
 pub record Within (r : Row) : Type 0 where
+  pub species : r .species ≤ 15
   pub tariff : r .tariff ≤ 50
   pub d : r .d ≤ 1000
   pub trees : r .trees ≤ 100000000
   pub biomass : RowBounds (r .trees) (r .biomass)
-
-pub record ValidRow (s : Survey) (r : Row) : Type 0 where
-  pub is-declared : declared (r .species) s ≡ true
-  pub figures : Within r
 
 -- no two rows are of the same stratum and species
 pub data Apart : List Row → Type 0 where
@@ -60,13 +67,13 @@ pub record Valid (s : Survey) : Type 0 where
   -- the tables are as long as the code's arrays
   pub ids : length (s .species) ≡ 16
   pub cms : length (s .factors) ≡ 101
-  pub places : length (s .rows) ≡ 32
+  pub places : length (s .rows) ≡ mostLines
   pub species : (id : ℕ) → declared id s ≡ true → ValidSpecies (speciesAt s id)
   pub factors : (cm : ℕ) → 0 < factorAt (s .factors) cm → ValidFactor cm (factorAt (s .factors) cm)
   -- "32 lines": the closed ones, and the open one
-  pub lines : s .closed ≤ 32
-  pub room : s .active ≡ true → s .closed < 32
-  pub rows : (i : ℕ) → i < s .closed → ValidRow s (rowAt s i)
+  pub lines : s .closed ≤ mostLines
+  pub room : s .active ≡ true → s .closed < mostLines
+  pub rows : (i : ℕ) → i < s .closed → Within (rowAt s i)
   pub apart : Apart (take (s .closed) (s .rows))
   pub line : s .active ≡ true → ValidLine s (s .line)
   pub finished : s .ended ≡ true → s .active ≡ false

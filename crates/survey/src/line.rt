@@ -16,7 +16,20 @@ use biomass::whole::within;
 ghost use mathlib.Core.Path.{_≡_};
 ghost use Prim.Native.Nat.{_≤_};
 ghost use Rattle.biomass.specs.Law.Report.{Inside};
-ghost use Rattle.survey.specs.Line.{noted, rowed, begun, measured, height, emptyRow, worked, lineRow};
+ghost use Rattle.survey.specs.Line.{begun, emptyRow};
+ghost use Rattle.survey.specs.Apply.{noted, rowed, measured, height, worked, lineRow};
+
+// Measured trees: how many, and their classes in cm, squared and added.
+pub struct Tally {
+    pub n: u64,
+    pub squares: u64,
+}
+
+// Height trees: how many, and their tariffs added.
+pub struct Heights {
+    pub number: u64,
+    pub tariffs: u64,
+}
 
 pub struct Line {
     pub stratum: u8,
@@ -25,12 +38,8 @@ pub struct Line {
     pub species: Species,
     pub p: u32,
     pub q: u32,
-    // How many trees were measured, and their classes in cm, squared and added.
-    pub n: u64,
-    pub squares: u64,
-    // How many height trees there are, and their tariffs added.
-    pub heights: u64,
-    pub tariffs: u64,
+    pub tally: Tally,
+    pub heights: Heights,
 }
 
 // The line with one command more, or why not.
@@ -50,16 +59,19 @@ impl Line {
     pub fn new(stratum: u8, id: u8, species: Species, p: u32, q: u32) -> Self
         ensures { λ r. ⌜ r ≡ begun stratum id species p q ⌝ }
     {
+        let tally = Tally { n: 0, squares: 0 };
+        let heights = Heights {
+            number: 0,
+            tariffs: 0,
+        };
         Line {
             stratum,
             id,
             species,
             p,
             q,
-            n: 0,
-            squares: 0,
-            heights: 0,
-            tariffs: 0,
+            tally,
+            heights,
         }
     }
 
@@ -75,17 +87,19 @@ impl Line {
         if trees < 1 {
             return Noted::Refused(Refusal::Operand);
         }
-        if 1_000_000 - trees < self.n {
+        if 1_000_000 - trees < self.tally.n {
             return Noted::Refused(Refusal::Limit);
         }
-        let squares = trees * (cm * cm);
+        let added = trees * (cm * cm);
         // No survey reaches a line of which this is true.
-        if 10_000_000_000 - squares < self.squares {
+        if 10_000_000_000 - added < self.tally.squares {
             return Noted::Refused(Refusal::Operand);
         }
+        let n = self.tally.n + trees;
+        let squares = self.tally.squares + added;
+        let tally = Tally { n, squares };
         let mut line = self;
-        line.n = self.n + trees;
-        line.squares = self.squares + squares;
+        line.tally = tally;
         Noted::Is(line)
     }
 
@@ -98,16 +112,18 @@ impl Line {
             Count::Is(t) => t,
             Count::Refused(why) => return Noted::Refused(of_figure(why)),
         };
-        if 1000 <= self.heights {
+        if 1000 <= self.heights.number {
             return Noted::Refused(Refusal::Limit);
         }
         // No survey reaches a line of which this is true.
-        if 50_000 - tariff < self.tariffs {
+        if 50_000 - tariff < self.heights.tariffs {
             return Noted::Refused(Refusal::Operand);
         }
+        let number = self.heights.number + 1;
+        let tariffs = self.heights.tariffs + tariff;
+        let heights = Heights { number, tariffs };
         let mut line = self;
-        line.heights = self.heights + 1;
-        line.tariffs = self.tariffs + tariff;
+        line.heights = heights;
         Noted::Is(line)
     }
 
@@ -161,13 +177,13 @@ impl Line {
     pub fn row(self, factors: [u8; 101]) -> Closed
         ensures { λ r. ⌜ rowed r ≡ lineRow factors self ⌝ }
     {
-        if self.n == 0 {
+        if self.tally.n == 0 {
             return Closed::Is(self.empty_row());
         }
-        if self.heights == 0 {
+        if self.heights.number == 0 {
             return Closed::Refused(Refusal::NoHeightTree);
         }
-        let d = match mean(self.n, self.squares) {
+        let d = match mean(self.tally.n, self.tally.squares) {
             Count::Is(d) => d,
             Count::Refused(why) => return Closed::Refused(of_figure(why)),
         };
@@ -176,14 +192,14 @@ impl Line {
         if factor == 0 {
             return Closed::Refused(Refusal::NoFactor);
         }
-        let number = match trees(self.n, self.p as u64, self.q as u64) {
+        let number = match trees(self.tally.n, self.p as u64, self.q as u64) {
             Count::Is(n) => n,
             Count::Refused(why) => return Closed::Refused(of_figure(why)),
         };
         if 100_000_000 < number {
             return Closed::Refused(Refusal::TooManyTrees);
         }
-        let tariff = match line_tariff(self.tariffs, self.heights) {
+        let tariff = match line_tariff(self.heights.tariffs, self.heights.number) {
             Count::Is(t) => t,
             Count::Refused(why) => return Closed::Refused(of_figure(why)),
         };

@@ -11,7 +11,7 @@ use super::survey::Survey;
 ghost use mathlib.Core.Path.{_≡_};
 ghost use Rattle.biomass.specs.Report.{refused};
 ghost use Rattle.survey.specs.Refusal.{number};
-ghost use Rattle.survey.specs.Line.{noted};
+ghost use Rattle.survey.specs.Apply.{noted};
 ghost use Rattle.survey.specs.Playing.{stopped, played, stepped, step, afterEnd, play};
 ghost use Rattle.survey.specs.Noting.{noting, notedTo, note};
 

@@ -1,6 +1,9 @@
 // The row that a closed line leaves.
 use biomass::units::BiomassRange;
 
+// How many bytes a row has in a sheet.
+pub const ROW_LENGTH: usize = 25;
+
 pub struct Row {
     pub stratum: u8,
     // The species' id.

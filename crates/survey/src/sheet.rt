@@ -1,11 +1,13 @@
-// The sheet: the rows of the closed lines, of 25 bytes each, from byte 0 on in closing order.
+// The sheet: the rows of the closed lines, one after the other, from byte 0 on in closing order.
 use super::bytes::eight;
 use super::bytes::four;
 use super::bytes::two;
 use super::encoding::Encoded;
 use super::encoding::lay;
 use super::refusal::Refusal;
+use super::row::ROW_LENGTH;
 use super::row::Row;
+use super::survey::MOST_LINES;
 use biomass::units::BiomassRange;
 use biomass::units::Milligrams;
 ghost use mathlib.Core.Path.{_≡_};
@@ -13,9 +15,13 @@ ghost use mathlib.Core.List.{_++_};
 ghost use Prim.Native.Nat.{_+_, _≤_};
 ghost use lib.ListN.{length, take};
 ghost use Rattle.survey.specs.Bytes.{bytes};
-ghost use Rattle.survey.specs.Encoded.{held};
 ghost use Rattle.survey.specs.Writing.{laidAt};
-ghost use Rattle.survey.specs.Sheet.{rowBytes, sheetBytes, rowFrom, found, findRow};
+ghost use Rattle.survey.specs.Encoded.{held};
+ghost use Rattle.survey.specs.Survey.{mostLines};
+ghost use Rattle.survey.specs.Sheet.{rowLength, sheetLength, rowBytes, sheetBytes, rowFrom, found, findRow};
+
+// How many bytes a sheet has at least: room for the rows of all lines that a book may have.
+pub const SHEET_LENGTH: usize = MOST_LINES * ROW_LENGTH;
 
 // The row, or that the sheet has none there.
 pub enum Found {
@@ -31,7 +37,7 @@ fn encode_bytes(stratum: u8, species: u8, tariff: u8) -> Encoded
 }
 
 fn encode(row: Row) -> Encoded
-    ensures { λ r. ⌜ (held r ≡ rowBytes row) × (r .length ≡ 25) ⌝ }
+    ensures { λ r. ⌜ (held r ≡ rowBytes row) × (r .length ≡ rowLength) ⌝ }
 {
     encode_bytes(row.stratum, row.species, row.tariff)
         .two(row.d)
@@ -41,22 +47,22 @@ fn encode(row: Row) -> Encoded
 }
 
 // Lays so many rows.
-pub(crate) fn lay_rows(sheet: &mut [u8], rows: [Row; 32], closed: usize)
-    requires { ⌜ (closed ≤ 32) × (800 ≤ length (now sheet)) ⌝ }
+pub(crate) fn lay_rows(sheet: &mut [u8], rows: [Row; MOST_LINES], closed: usize)
+    requires { ⌜ (closed ≤ mostLines) × (sheetLength ≤ length (now sheet)) ⌝ }
     ensures { λ _. ⌜ now (sheet .exit) ≡ laidAt (now (sheet .entry)) 0 (sheetBytes (take closed rows)) ⌝ }
 {
     let mut i: usize = 0;
     while i < closed {
         let row = encode(rows[i]);
         let bytes = row.bytes;
-        lay(sheet, 25 * i, bytes, 25);
+        lay(sheet, ROW_LENGTH * i, bytes, ROW_LENGTH);
         i += 1;
     }
 }
 
-// The row in the 25 bytes from a place on.
+// The row in the bytes from a place on.
 fn row_from(sheet: &[u8], at: usize) -> Row
-    requires { ⌜ at + 25 ≤ length (now sheet) ⌝ }
+    requires { ⌜ at + rowLength ≤ length (now sheet) ⌝ }
     ensures { λ r. ⌜ r ≡ rowFrom (now (sheet .entry)) at ⌝ }
 {
     let biomass = BiomassRange {
@@ -77,8 +83,8 @@ fn row_from(sheet: &[u8], at: usize) -> Row
 pub fn find_row(sheet: &[u8], i: usize) -> Found
     ensures { λ r. ⌜ found r ≡ findRow (now (sheet .entry)) i ⌝ }
 {
-    if sheet.len() / 25 <= i {
+    if sheet.len() / ROW_LENGTH <= i {
         return Found::Refused(Refusal::AtEnd);
     }
-    Found::Is(row_from(sheet, 25 * i))
+    Found::Is(row_from(sheet, ROW_LENGTH * i))
 }

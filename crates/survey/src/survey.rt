@@ -9,11 +9,14 @@ use super::row::Row;
 use biomass::whole::within;
 ghost use mathlib.Core.Path.{_≡_};
 ghost use Prim.Native.Nat.{_<_};
-ghost use lib.ListN.{set};
 ghost use Rattle.biomass.specs.Report.{refused, gives, _then_};
 ghost use Rattle.survey.specs.Refusal.{number};
-ghost use Rattle.survey.specs.Line.{noted, factorAt};
-ghost use Rattle.survey.specs.Survey.{fresh, outcome, applied, leaves, speciesInRange, declared, isLine, opened, speciesAt, withSpecies, withFactors, withLine, withOpened, withRow, withEnd, kept, declare, giveFactor, openLine, measure, giveHeight, close, finish, apply};
+ghost use Rattle.survey.specs.Line.{factorAt};
+ghost use Rattle.survey.specs.Survey.{outcome, applied, leaves, mostLines, fresh, speciesAt, withSpecies, withFactor, withOpened, withLine, withRow, withEnd, speciesInRange, declared, declare, giveFactor, isLine, opened, openLine, finish};
+ghost use Rattle.survey.specs.Apply.{noted, applyMeasured, applyHeight, kept, applyClose, apply};
+
+// How many lines a book has at most.
+pub const MOST_LINES: usize = 32;
 
 pub struct Survey {
     // What each species was declared with, by its id; gravity 0: not declared.
@@ -21,7 +24,7 @@ pub struct Survey {
     // The factor at each whole cm, in hundredths; 0: not given.
     pub factors: [u8; 101],
     // The rows of the closed lines, in closing order: so many as `closed` says.
-    pub rows: [Row; 32],
+    pub rows: [Row; MOST_LINES],
     pub closed: usize,
     // Whether `line` is open.
     pub active: bool,
@@ -98,7 +101,7 @@ impl Survey {
         let empty = line.empty_row();
         let species = [undeclared; 16];
         let factors = [0u8; 101];
-        let rows = [empty; 32];
+        let rows = [empty; MOST_LINES];
         Survey {
             species,
             factors,
@@ -141,7 +144,7 @@ impl Survey {
 
     fn with_species(mut self, id: u8, species: Species) -> Survey
         requires { ⌜ id < 16 ⌝ }
-        ensures { λ r. ⌜ r ≡ withSpecies self (set (self .species) id species) ⌝ }
+        ensures { λ r. ⌜ r ≡ withSpecies self id species ⌝ }
     {
         let i = id as usize;
         self.species[i] = species;
@@ -158,7 +161,7 @@ impl Survey {
 
     fn with_factor(mut self, cm: u8, factor: u8) -> Survey
         requires { ⌜ cm < 101 ⌝ }
-        ensures { λ r. ⌜ r ≡ withFactors self (set (self .factors) cm factor) ⌝ }
+        ensures { λ r. ⌜ r ≡ withFactor self cm factor ⌝ }
     {
         let i = cm as usize;
         self.factors[i] = factor;
@@ -181,7 +184,7 @@ impl Survey {
     }
 
     fn with_row(mut self, row: Row) -> Survey
-        requires { ⌜ self .closed < 32 ⌝ }
+        requires { ⌜ self .closed < mostLines ⌝ }
         ensures { λ r. ⌜ r ≡ withRow self row ⌝ }
     {
         let at = self.closed;
@@ -249,7 +252,7 @@ impl Survey {
         ensures { λ r. ⌜ r ≡ opened stratum id self ⌝ }
     {
         let mut i: usize = 0;
-        while i < 32 {
+        while i < MOST_LINES {
             if self.closed <= i {
                 return false;
             }
@@ -284,7 +287,7 @@ impl Survey {
         if self.has_row(stratum, id) {
             return self.refuse(Refusal::AlreadyGiven);
         }
-        if 32 <= self.closed {
+        if MOST_LINES <= self.closed {
             return self.refuse(Refusal::Limit);
         }
         let line = Line::new(stratum, id, self.species_at(id), p, q);
@@ -303,7 +306,7 @@ impl Survey {
 
     // 04: measured trees of the open line.
     pub fn measured(self, class: u8, count: u16) -> Applied
-        ensures { λ r. ⌜ applied r ≡ leaves self (measure class count self) ⌝ }
+        ensures { λ r. ⌜ applied r ≡ leaves self (applyMeasured class count self) ⌝ }
     {
         if self.ended {
             return self.refuse(Refusal::Ended);
@@ -317,7 +320,7 @@ impl Survey {
 
     // 05: a height tree of the open line.
     pub fn height(self, cm: u8, tenths: u16) -> Applied
-        ensures { λ r. ⌜ applied r ≡ leaves self (giveHeight cm tenths self) ⌝ }
+        ensures { λ r. ⌜ applied r ≡ leaves self (applyHeight cm tenths self) ⌝ }
     {
         if self.ended {
             return self.refuse(Refusal::Ended);
@@ -335,7 +338,7 @@ impl Survey {
     {
         let at = self.closed;
         // No survey reaches this with a line open.
-        if 32 <= at {
+        if MOST_LINES <= at {
             return self.refuse(Refusal::Limit);
         }
         self.with_row(row).accept()
@@ -343,7 +346,7 @@ impl Survey {
 
     // 06: closes the line and keeps its row.
     pub fn close(self) -> Applied
-        ensures { λ r. ⌜ applied r ≡ leaves self (close self) ⌝ }
+        ensures { λ r. ⌜ applied r ≡ leaves self (applyClose self) ⌝ }
     {
         if self.ended {
             return self.refuse(Refusal::Ended);

@@ -3,7 +3,9 @@ use super::playing::play;
 use super::refusal::Refusal;
 use super::refusal::of_figure;
 use super::row::Row;
+use super::sheet::SHEET_LENGTH;
 use super::sheet::lay_rows;
+use super::survey::MOST_LINES;
 use super::survey::Outcome;
 use biomass::answer::Carbon;
 use biomass::project::project;
@@ -14,9 +16,10 @@ ghost use mathlib.Core.Path.{_≡_};
 ghost use Prim.Native.Nat.{_≤_};
 ghost use lib.ListN.{length, take};
 ghost use Rattle.survey.specs.Writing.{laidAt};
-ghost use Rattle.survey.specs.Sheet.{sheetBytes};
-ghost use Rattle.survey.specs.Total.{answer, treesOf, sumOf, sums, totalled, totalOf, total, sheetAfter};
+ghost use Rattle.survey.specs.Survey.{mostLines};
+ghost use Rattle.survey.specs.Sheet.{sheetLength, sheetBytes};
 ghost use Rattle.survey.specs.Law.Sums.{RowsSmall};
+ghost use Rattle.survey.specs.Total.{answer, treesOf, sumOf, sums, totalled, totalOf, total, sheetAfter};
 ghost use Rattle.survey.specs.Demand3.{Demanded};
 
 // What comes of an accepted book.
@@ -41,8 +44,8 @@ struct Sums {
     biomass: BiomassRange,
 }
 
-fn add(rows: [Row; 32], closed: usize) -> Sums
-    requires { ⌜ (closed ≤ 32) × RowsSmall (take closed rows) ⌝ }
+fn add(rows: [Row; MOST_LINES], closed: usize) -> Sums
+    requires { ⌜ (closed ≤ mostLines) × RowsSmall (take closed rows) ⌝ }
     ensures { λ r. ⌜ (r .trees ≡ sumOf treesOf (take closed rows)) × (r .biomass ≡ sums (take closed rows)) ⌝ }
 {
     let mut trees: u64 = 0;
@@ -67,8 +70,8 @@ fn add(rows: [Row; 32], closed: usize) -> Sums
 }
 
 // So many rows laid, and their totals. The figures come first: where they were declined, the sheet would be as it was.
-fn lay_total(sheet: &mut [u8], rows: [Row; 32], closed: usize) -> Totalled
-    requires { ⌜ (closed ≤ 32) × RowsSmall (take closed rows) × (800 ≤ length (now sheet)) ⌝ }
+fn lay_total(sheet: &mut [u8], rows: [Row; MOST_LINES], closed: usize) -> Totalled
+    requires { ⌜ (closed ≤ mostLines) × RowsSmall (take closed rows) × (sheetLength ≤ length (now sheet)) ⌝ }
     ensures answer { λ r. ⌜ answer r ≡ totalled (totalOf (take closed rows)) ⌝ }
     ensures laid { λ _. ⌜ now (sheet .exit) ≡ laidAt (now (sheet .entry)) 0 (sheetBytes (take closed rows)) ⌝ }
 {
@@ -98,7 +101,7 @@ pub fn total(book: &[u8], sheet: &mut [u8]) -> Totalled
     ensures laid { λ _. ⌜ now (sheet .exit) ≡ sheetAfter (now (book .entry)) (now (sheet .entry)) ⌝ }
     ensures demand3 { λ r. ⌜ Demanded (now (book .entry)) (answer r) ⌝ }
 {
-    if sheet.len() < 800 {
+    if sheet.len() < SHEET_LENGTH {
         return Totalled::Refused {
             why: Refusal::ShortSheet,
             at: 0,

@@ -3,7 +3,7 @@
 use Prim.Native.Nat.{ℕ, zero, suc, _+_, _*_, _/_, _≤_, _<_, zero-le}
 use native.Mathlib.Nat.{mul-pos, zero-add}
 use native.Mathlib.Omega.{arith}
-use mathlib.Core.Path.{_≡_, _∙_, refl, sym, ap₂, subst}
+use mathlib.Core.Path.{_≡_, _∙_, refl, sym, ap, subst}
 use mathlib.Core.Bool.{cond}
 use mathlib.Core.List.{List, [], _∷_, map}
 use lib.ListN.{length, getD, take}
@@ -17,16 +17,16 @@ use Rattle.biomass.specs.Law.Signed.{pos-le}
 use Rattle.biomass.specs.Law.Fraction.{≼-refl, ≼-trans, ⊕-mono, ⊗-mono, whole-⊕, share-not-under, share-not-over}
 use Rattle.biomass.specs.Law.Exact.{row-den, row-not-under, row-not-over}
 use Rattle.biomass.specs.declared.units.Grams.{Grams}
-use Rattle.survey.specs.Line.{emptyRow}
-use Rattle.survey.specs.Survey.{noLine}
-use Rattle.survey.specs.Closings.{closingsOf, closingRow}
-use Rattle.survey.specs.Valid.{Within, Valid}
+use Rattle.survey.specs.Line.{Estimate, emptyRow}
+use Rattle.survey.specs.Survey.{mostLines, noLine, estimate, closingRow}
 use Rattle.survey.specs.AsWritten.{asWritten}
+use Rattle.survey.specs.Closings.{closingsOf}
+use Rattle.survey.specs.Valid.{Within, Valid}
 use Rattle.survey.specs.Playing.{Played, ended, stopped, playBy, play}
 use Rattle.survey.specs.Sheet.{rowsOf}
 use Rattle.survey.specs.Total.{sumOf, treesOf, lowOf, highOf, totalled, totalOf, answerOf, total}
-use Rattle.survey.specs.Demand3.{Estimate, estimate, linesOf, added, Each, Fractions, exactSum, exactTotal, Demand3, Demanded}
-use Rattle.survey.specs.Law.Sheet.{at-most-32}
+use Rattle.survey.specs.Demand3.{linesOf, added, Each, Fractions, exactSum, exactTotal, Demand3, Demanded}
+use Rattle.survey.specs.Law.Sheet.{rows-at-most}
 use Rattle.survey.specs.Law.Sums.{RowsSmall, sums-small}
 use Rattle.survey.specs.Law.Playing.{play-valid, play-as-written}
 use Rattle.survey.specs.Law.Closings.{AllClosed, no-line, and-lines, all-lines-closed, rows-are}
@@ -46,7 +46,7 @@ within-small (suc n) (r ∷ l) each =
 
 -- the rows of a valid survey are within those of the greatest row
 pub rows-small : (s : Survey) → Valid s → RowsSmall (rowsOf s)
-rows-small s v = within-small (s .closed) (s .rows) (λ i h. v .rows i h .figures)
+rows-small s v = within-small (s .closed) (s .rows) (v .rows)
 
 -- ---- the sums
 
@@ -56,18 +56,18 @@ record SumsNear (rows : List Row) : Type 0 where
   high-of-none : sumOf treesOf rows ≡ 0 → sumOf highOf rows ≡ 0
 
 sums-near : {ss : List Survey} → AllClosed ss → SumsNear (map closingRow ss)
-unfolding sumOf
+unfolding sumOf closingRow
 sums-near no-line = omega arith
-sums-near (and-lines s ss r c) =
-    let b = r .within .biomass in
+sums-near (and-lines s ss w c) =
+    let b = w .within .biomass in
     let rest = sums-near c in
     record { near = omega arith; high-of-none = λ none. omega (arith, b .high-of-none (omega arith), rest .high-of-none (omega arith)) }
 
 -- "the N of all lines added" is that of the rows added
 added-is : {ss : List Survey} → AllClosed ss → added (map estimate ss) ≡ sumOf treesOf (map closingRow ss)
-unfolding sumOf added
+unfolding sumOf added closingRow
 added-is no-line = refl
-added-is (and-lines s ss r c) = ap₂ (λ (n m : ℕ). n + m) (sym (r .trees)) (added-is c)
+added-is (and-lines s ss w c) = ap (λ (n : ℕ). estimate s .N + n) (added-is c)
 
 -- ---- "they are equal exactly when every N is 0", and "the high is at most the low + 3 + (the N of all lines added) div 1000"
 
@@ -97,7 +97,7 @@ module _ (L H N : ℕ) where
 
   -- N is in hundredths: 11/6000 of 54 mg for each tree is less than N div 1000 + 1, and of 2 mg for each of 32 rows less than 1. The div of the low
   -- takes off less than 1, and the high has 1 added: less than N div 1000 + 4 in all
-  project-gap : (rows : ℕ) → rows ≤ 32 → 100 * H ≤ 100 * L + 54 * N + 200 * rows
+  project-gap : (rows : ℕ) → rows ≤ mostLines → 100 * H ≤ 100 * L + 54 * N + 200 * rows
       → projectOf (between L H) N .high .0 ≤ projectOf (between L H) N .low .0 + 3 + N / 1000
   project-gap rows most near =
       none-or-some (λ (high : Grams). high .0 ≤ 11 * L / 6000 + 3 + N / 1000) N _ _ (λ none. omega arith) (λ some. omega arith)
@@ -121,31 +121,31 @@ module _ (g : Fractions) where
   sum-not-under : {i : ℕ} {ss : List Survey} → AllClosed ss
       → Each (λ i l. 0 < l .N → NotBelow (l .tree) (g .crown i) (g .root i)) i (map estimate ss)
       → whole (pos (sumOf lowOf (map closingRow ss))) ≼ exactSum g i (map estimate ss)
-  unfolding sumOf exactSum
+  unfolding sumOf exactSum closingRow
   sum-not-under no-line each = ≼-refl (whole (pos 0))
-  sum-not-under (and-lines s ss r c) (Each.more i l ls h each) =
+  sum-not-under (and-lines s ss w c) (Each.more i l ls h each) =
       let rest = sum-not-under c each in
       let low = lowOf (closingRow s) in
       let lows = sumOf lowOf (map closingRow ss) in
       none-or-some (λ (x : Fraction). whole (pos (low + lows)) ≼ x) (estimate s .N) _ _
-      (λ none. rw (r .within .biomass .low-of-none (r .trees ∙ none), zero-add) rest)
+      (λ none. rw (w .within .biomass .low-of-none none, zero-add) rest)
       (λ some.
-      let one = row-not-under (estimate s .N) (estimate s .tree) _ (r .worked some) (g .crown i) (g .root i) (h some) in
+      let one = row-not-under (estimate s .N) (estimate s .tree) _ (w .answered some) (g .crown i) (g .root i) (h some) in
       rw (← whole-⊕ (pos low) (pos lows)) (⊕-mono one rest))
 
   sum-not-over : {i : ℕ} {ss : List Survey} → AllClosed ss
       → Each (λ i l. 0 < l .N → NotAbove (l .tree) (g .crown i) (g .root i)) i (map estimate ss)
       → exactSum g i (map estimate ss) ≼ whole (pos (sumOf highOf (map closingRow ss)))
-  unfolding sumOf exactSum
+  unfolding sumOf exactSum closingRow
   sum-not-over no-line each = ≼-refl (whole (pos 0))
-  sum-not-over (and-lines s ss r c) (Each.more i l ls h each) =
+  sum-not-over (and-lines s ss w c) (Each.more i l ls h each) =
       let rest = sum-not-over c each in
       let high = highOf (closingRow s) in
       let highs = sumOf highOf (map closingRow ss) in
       none-or-some (λ (x : Fraction). x ≼ whole (pos (high + highs))) (estimate s .N) _ _
-      (λ none. rw (r .within .biomass .high-of-none (r .trees ∙ none), zero-add) rest)
+      (λ none. rw (w .within .biomass .high-of-none none, zero-add) rest)
       (λ some.
-      let one = row-not-over (estimate s .N) (estimate s .tree) _ (r .worked some) (g .crown i) (g .root i) (h some) in
+      let one = row-not-over (estimate s .N) (estimate s .tree) _ (w .answered some) (g .crown i) (g .root i) (h some) in
       rw (← whole-⊕ (pos high) (pos highs)) (⊕-mono one rest))
 
 -- 11/6000 of what is not over the high sum, also where no line has trees and no 1 is added
@@ -162,7 +162,7 @@ project-not-over L H N {x} high-of-none h =
 -- ---- the demand
 
 -- of at most 32 lines that are closed, with the rows that they leave
-pub demand3 : (ss : List Survey) → AllClosed ss → RowsSmall (map closingRow ss) → length (map closingRow ss) ≤ 32
+pub demand3 : (ss : List Survey) → AllClosed ss → RowsSmall (map closingRow ss) → length (map closingRow ss) ≤ mostLines
     → Demand3 (map estimate ss) (totalOf (map closingRow ss) .carbon .low .0) (totalOf (map closingRow ss) .carbon .high .0)
 unfolding totalOf exactTotal
 demand3 ss closed small number =
@@ -195,7 +195,7 @@ module _ (book : List ℕ) (s : Survey) (accepted : play book ≡ ended s) where
       let rows = rowsOf s in
       let are : rows ≡ map closingRow (closingsOf book) = rows-are book s by-text in
       let small : RowsSmall (map closingRow (closingsOf book)) = subst RowsSmall are (rows-small s v) in
-      let number : length (map closingRow (closingsOf book)) ≤ 32 = subst (λ (rs : List Row). length rs ≤ 32) are (at-most-32 s v) in
+      let number : length (map closingRow (closingsOf book)) ≤ mostLines = subst (λ (rs : List Row). length rs ≤ mostLines) are (rows-at-most s v) in
       rw are (demand3 (closingsOf book) (all-lines-closed book s by-text) small number)
 
   -- and "the N of all lines added", which comes back, is that of these lines

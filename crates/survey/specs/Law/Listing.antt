@@ -1,6 +1,6 @@
 -- Totalling the listing gives what document 01 prints of it. All of the book is numbers, so reading it, applying its commands and working its rows compute:
 -- one equation gives the survey at its end (`listing-played`), and the answer, the sheet and the lines are read off it.
-use Prim.Native.Nat.{ℕ, _≤_}
+use Prim.Native.Nat.{ℕ, _*_, _≤_}
 use mathlib.Core.Path.{_≡_, _∙_, refl}
 use mathlib.Core.Bool.{true, false}
 use mathlib.Core.List.{List, [], _∷_, _++_}
@@ -14,17 +14,17 @@ use Rattle.biomass.specs.Stem.{VL, VH, stemEnds, stem}
 use Rattle.biomass.specs.Crown.{crownEnds, crown}
 use Rattle.biomass.specs.Root.{rootEnds, root}
 use Rattle.biomass.specs.Tree.{tree, row}
-use Rattle.survey.specs.Book.{encodeAll, reachUpTo, reach}
 use Rattle.survey.specs.Reading.{speciesFrom, factorFrom, openFrom, measuredFrom, heightFrom, commandFrom, read}
 use Rattle.survey.specs.Writing.{laidAt}
-use Rattle.survey.specs.Line.{begun, measured, height, emptyRow, treeWith, worked, lineRow}
-use Rattle.survey.specs.Survey.{noLine, fresh, declare, giveFactor, opened, openLine, measure, giveHeight, kept, close, finish}
-use Rattle.survey.specs.AsWritten.{measureAsWritten, heightAsWritten, closeAsWritten}
+use Rattle.survey.specs.Book.{encodeAll, reachUpTo, reach}
+use Rattle.survey.specs.Line.{begun, treeWith, Estimate, noTrees, emptyRow}
+use Rattle.survey.specs.Survey.{noLine, fresh, declare, giveFactor, opened, openLine, measure, giveHeight, estimate, closingRow, close, finish}
 use Rattle.survey.specs.Closings.{closings, closingsOf}
+use Rattle.survey.specs.Apply.{measured, height, worked, lineRow, applyMeasured, applyHeight, kept, applyClose}
 use Rattle.survey.specs.Playing.{ended, stepBy, playUpToBy, play}
-use Rattle.survey.specs.Sheet.{rowBytes, sheetBytes}
+use Rattle.survey.specs.Sheet.{rowLength, sheetLength, rowBytes, sheetBytes}
 use Rattle.survey.specs.Total.{totalled, sumOf, totalOf, total, sheetAfter}
-use Rattle.survey.specs.Demand3.{Estimate, linesOf}
+use Rattle.survey.specs.Demand3.{linesOf}
 use Rattle.survey.specs.Listing.{listed, listing, listingTotals, row1, row2}
 use Rattle.survey.specs.Law.Total.{total-applied, sheet-applied}
 use Rattle.survey.specs.declared.survey.Survey.{Survey}
@@ -44,35 +44,35 @@ listingSurvey =
       ended = true;
     }
 
--- its lines, as demand 3 takes them. The second has no trees, and what stands there for a tree (0 div 0, any d, no factor) is not in the exact value
+-- its lines, as demand 3 takes them
 abbrev pub listingLines : List Estimate
-listingLines = record { N = 2400; tree = treeWith listed 26 600 101 } ∷ record { N = 0; tree = treeWith listed 0 1000 0 } ∷ []
+listingLines = record { N = 2400; tree = treeWith listed 26 600 101 } ∷ noTrees ∷ []
 
 -- ---- and that it does
 
 pub listing-played : play listing ≡ ended listingSurvey
 unfolding
     listing encodeAll speciesFrom factorFrom openFrom measuredFrom heightFrom commandFrom read
-    fresh declare giveFactor opened openLine measure measured giveHeight height close kept finish
+    fresh declare giveFactor opened openLine applyMeasured measured applyHeight height applyClose kept finish
     lineRow greatest meanOf mean trees singleTariff lineTariff
     worked row tree stem stemEnds VL VH crown crownEnds root rootEnds
     stepBy playUpToBy play listingSurvey
 listing-played = refl
 
 -- so its totals are those printed, on every sheet that is not too short
-pub listing-totalled : (sheet : List ℕ) → 800 ≤ length sheet → total listing sheet ≡ totalled listingTotals
+pub listing-totalled : (sheet : List ℕ) → sheetLength ≤ length sheet → total listing sheet ≡ totalled listingTotals
 unfolding totalOf sumOf listingSurvey
-listing-totalled sheet room = total-applied listing sheet ∙ rw (le-ltb (length sheet) 800 room, listing-played)
+listing-totalled sheet room = total-applied listing sheet ∙ rw (le-ltb (length sheet) sheetLength room, listing-played)
 
 -- its two rows stand first in the sheet, and the rest of the sheet is as it was
-pub listing-sheet : (sheet : List ℕ) → 800 ≤ length sheet → sheetAfter listing sheet ≡ rowBytes row1 ++ rowBytes row2 ++ drop 50 sheet
+pub listing-sheet : (sheet : List ℕ) → sheetLength ≤ length sheet → sheetAfter listing sheet ≡ rowBytes row1 ++ rowBytes row2 ++ drop (2 * rowLength) sheet
 unfolding laidAt sheetBytes rowBytes listingSurvey
-listing-sheet sheet room = sheet-applied listing sheet ∙ rw (le-ltb (length sheet) 800 room, listing-played)
+listing-sheet sheet room = sheet-applied listing sheet ∙ rw (le-ltb (length sheet) sheetLength room, listing-played)
 
 -- and its lines are those two
 pub listing-lines : linesOf listing ≡ listingLines
 unfolding
     listing encodeAll speciesFrom factorFrom openFrom measuredFrom heightFrom commandFrom read reachUpTo reach
-    fresh declare giveFactor opened openLine measureAsWritten heightAsWritten closeAsWritten finish
-    greatest meanOf singleTariff linesOf closingsOf closings
+    fresh declare giveFactor opened openLine measure giveHeight close finish
+    greatest meanOf singleTariff estimate closingRow linesOf closingsOf closings
 listing-lines = refl

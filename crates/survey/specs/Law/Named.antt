@@ -12,10 +12,11 @@ use Rattle.biomass.specs.Report.{refused}
 use Rattle.biomass.specs.Law.Report.{both-true}
 use Rattle.biomass.specs.Law.Declines.{Declines, gives-declines, unless-declines}
 use Rattle.survey.specs.Refusal.{number}
-use Rattle.survey.specs.Line.{emptyRow}
-use Rattle.survey.specs.Survey.{withRow, close, apply}
+use Rattle.survey.specs.Line.{N-of}
+use Rattle.survey.specs.Survey.{withRow, f-of, closingRow, close}
+use Rattle.survey.specs.AsWritten.{numbersOf, isIn}
+use Rattle.survey.specs.Apply.{applyClose, apply}
 use Rattle.survey.specs.Valid.{Valid}
-use Rattle.survey.specs.AsWritten.{N-of, f-of, workedRow, closeAsWritten, numbersOf, isIn}
 use Rattle.survey.specs.Law.Checks.{when-declines, cond-declines}
 use Rattle.survey.specs.Law.Declines.{declare-declines, factor-declines, open-declines, measure-declines, height-declines, close-declines, finish-declines}
 use Rattle.survey.specs.Law.AsWritten.{as-written}
@@ -33,7 +34,7 @@ Named c = In (numbersOf c)
 
 -- What a command is refused with is such a number of it, where the named ones are, and where what closing is refused with is
 module _ (such : Command → ℕ → Type 0) (named : (c : Command) (n : ℕ) → Named c n → such c n)
-    (s : Survey) (closing : Declines (such Command.Close) (close s)) where
+    (s : Survey) (closing : Declines (such Command.Close) (applyClose s)) where
   apply-declines : (c : Command) → Declines (such c) (apply c s)
   apply-declines (Command.Species id species) n e =
       let c = Command.Species id species in named c n (declare-declines (Named c) id species s refl refl refl n e)
@@ -51,23 +52,23 @@ module _ (such : Command → ℕ → Type 0) (named : (c : Command) (n : ℕ) �
 
 -- ---- a valid survey
 
-close-as-written-named : (s : Survey) → Declines (Named Command.Close) (closeAsWritten s)
-unfolding closeAsWritten
-close-as-written-named s =
+close-named : (s : Survey) → Declines (Named Command.Close) (close s)
+unfolding close
+close-named s =
     let l = s .line in
     let such = Named Command.Close in
     when-declines such (s .ended) 5 _ (λ ended. refl) (λ not-ended.
     unless-declines such (s .active) 10 _ (λ none-open. refl) (λ is-open.
-    cond-declines such (eqb (l .n) 0) _ _ (gives-declines such (withRow s (emptyRow l)))
-    (when-declines such (eqb (l .heights) 0) 12 _ (λ none. refl) (λ heights.
+    cond-declines such (eqb (l .tally .n) 0) _ _ (gives-declines such (withRow s (closingRow s)))
+    (when-declines such (eqb (l .heights .number) 0) 12 _ (λ none. refl) (λ heights.
     when-declines such (eqb (f-of s) 0) 14 _ (λ none. refl) (λ given.
     unless-declines such (leb (N-of l) 100000000) 15 _ (λ over. refl) (λ few.
-    gives-declines such (withRow s (workedRow s))))))))
+    gives-declines such (withRow s (closingRow s))))))))
 
 -- the refusals that document 01 does not name are unreachable
 pub only-named : (c : Command) (s : Survey) (n : ℕ) → Valid s → apply c s ≡ refused n → isIn n (numbersOf c) ≡ true
 only-named c s n v e =
-    apply-declines Named (λ c n is. is) s (λ n e. close-as-written-named s n (sym (as-written Command.Close s v) ∙ e)) c n e
+    apply-declines Named (λ c n is. is) s (λ n e. close-named s n (sym (as-written Command.Close s v) ∙ e)) c n e
 
 -- ---- any survey
 

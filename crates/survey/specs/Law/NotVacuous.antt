@@ -21,10 +21,11 @@ use Rattle.biomass.specs.Law.Fraction.{≼-refl, ⊕-mono, ⊗-mono}
 use Rattle.biomass.specs.Law.Power.{units, w-not-above, next-w-not-below, y-not-above, next-y-not-below}
 use Rattle.biomass.specs.Law.Exact.{tree-ordered}
 use Rattle.biomass.specs.declared.tree.AverageTree.{AverageTree}
+use Rattle.survey.specs.Line.{Estimate}
 use Rattle.survey.specs.Playing.{Played, ended, stopped, play}
 use Rattle.survey.specs.Sheet.{rowsOf}
 use Rattle.survey.specs.Total.{Answer, refusedAt, totalled, sumOf, treesOf, totalOf, answerOf, total}
-use Rattle.survey.specs.Demand3.{Estimate, Each, Fractions, exactSum, exactTotal, NoneBelow, NoneAbove}
+use Rattle.survey.specs.Demand3.{Each, Fractions, exactSum, exactTotal, NoneBelow, NoneAbove}
 use Rattle.survey.specs.Law.Sums.{sums-small}
 use Rattle.survey.specs.Law.Demand3.{rows-small}
 use Rattle.survey.specs.Law.Playing.{play-valid}

@@ -8,8 +8,9 @@ use mathlib.Core.List.{List}
 use lib.ListN.{getD}
 use lib.Seq.{getD-set-other}
 use Rattle.biomass.specs.Report.{gives}
-use Rattle.survey.specs.Line.{emptyRow, factorAt}
-use Rattle.survey.specs.Survey.{undeclared, noLine, speciesAt, declared, apply}
+use Rattle.survey.specs.Line.{factorAt, emptyRow}
+use Rattle.survey.specs.Survey.{undeclared, noLine, speciesAt, declared}
+use Rattle.survey.specs.Apply.{apply}
 use Rattle.survey.specs.Valid.{rowAt}
 use Rattle.survey.specs.Law.Checks.{declared-as}
 use Rattle.survey.specs.Law.Taken.{declare-gives, factor-gives, open-gives, measure-gives, height-gives, close-gives, finish-gives}

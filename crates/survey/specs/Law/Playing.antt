@@ -9,26 +9,26 @@ use native.Mathlib.Decide.{decLe}
 use native.Mathlib.Omega.{arith}
 use mathlib.Core.Path.{_≡_, _∙_, refl, sym, ap, ap₂, subst}
 use mathlib.Core.Bool.{Bool, true, false, cond, false≢true}
-use mathlib.Core.List.{List, _∷_, _++_}
+use mathlib.Core.List.{List, [], _∷_, _++_}
 use lib.ListN.{length, length-append}
 use lib.Dec.{ltb}
-use borrow.Author.Tests.{lt-ltb, le-ltb, ltb-true}
+use borrow.Author.Tests.{lt-ltb, le-ltb, ltb-true, ltb-false}
 use Rattle.biomass.specs.Report.{Report, refused, gives, unless, _then_}
 use Rattle.biomass.specs.Law.Gives.{made, figure-is, number-is}
 use Rattle.biomass.specs.Law.Declines.{Declines, gives-declines, then-declines}
 use Rattle.survey.specs.Refusal.{when}
 use Rattle.survey.specs.Command.{encode}
 use Rattle.survey.specs.Reading.{read}
-use Rattle.survey.specs.Book.{encodeAll}
-use Rattle.survey.specs.Line.{measured, height}
-use Rattle.survey.specs.Survey.{fresh, withLine, withOpened, declare, giveFactor, openLine, measure, giveHeight, close, finish, apply}
+use Rattle.survey.specs.Book.{encodeAll, reach}
+use Rattle.survey.specs.Survey.{fresh, withOpened, withLine, declare, giveFactor, openLine, finish}
+use Rattle.survey.specs.AsWritten.{asWritten, isIn}
+use Rattle.survey.specs.Apply.{measured, height, applyMeasured, applyHeight, applyClose, apply}
+use Rattle.survey.specs.Valid.{Valid}
 use Rattle.survey.specs.Playing.{Played, ended, stopped, takenTo, stepBy, step, met, afterEnd, playUpToBy, playUpTo, playFrom, playBy, play, playList}
 use Rattle.survey.specs.Noting.{Note, ofTheLine, notOfTheLine, notedTo, noteOf, note}
-use Rattle.survey.specs.Valid.{Valid}
-use Rattle.survey.specs.AsWritten.{asWritten, isIn}
 use Rattle.survey.specs.Law.Bytes.{Stands, stands-first, stands-second, stands-itself}
 use Rattle.survey.specs.Law.RoundTrip.{read-encoded, read-moves}
-use Rattle.survey.specs.Law.Reach.{read-declines, read-at-end, AllFit, none, and-next}
+use Rattle.survey.specs.Law.Reach.{read-declines, read-at-end, reach-refused, reach-on, AllFit, none, and-next}
 use Rattle.survey.specs.Law.Checks.{then-same}
 use Rattle.survey.specs.Law.Valid.{fresh-valid, apply-valid}
 use Rattle.survey.specs.Law.AsWritten.{as-written}
@@ -127,7 +127,7 @@ module _ (s : Survey) (l : Line) (not-ended : s .ended ≡ false) (is-open : s .
       by-line (gives m) = refl
 
   apply-carried : (c : Command) (next : ℕ) → takenTo next (apply c (withLine s l)) ≡ noteOf c next l then carried s (takenTo next (apply c (withLine s l)))
-  unfolding measure giveHeight
+  unfolding applyMeasured applyHeight
   apply-carried (Command.Species id species) next = refl
   apply-carried (Command.Factor cm factor) next = refl
   apply-carried (Command.Open stratum species p q) next = refl
@@ -301,7 +301,7 @@ when-ended : (s : Survey) (rest : Report Survey) → s .ended ≡ true → when 
 when-ended s rest e = ap (λ (b : Bool). when b 5 rest) e
 
 ended-refuses : (c : Command) (s : Survey) → s .ended ≡ true → apply c s ≡ refused 5
-unfolding declare giveFactor openLine measure giveHeight close finish
+unfolding declare giveFactor openLine applyMeasured applyHeight applyClose finish
 ended-refuses (Command.Species id species) s e = when-ended s _ e
 ended-refuses (Command.Factor cm factor) s e = when-ended s _ e
 ended-refuses (Command.Open stratum species p q) s e = when-ended s _ e
@@ -347,3 +347,30 @@ plays-list book at s cs (and-next {c} {cs = rest} f fs) h ends =
 pub play-of-list : (cs : List Command) → AllFit cs → play (encodeAll cs) ≡ playList cs 0 fresh
 unfolding play
 play-of-list cs fs = let book = encodeAll cs in plays-list book 0 fresh cs fs (stands-itself book) (omega arith)
+
+-- ---- a book that is accepted plays as the commands that it reads as
+
+-- after 07 no command is left
+ends-here : (s : Survey) (from : ℕ) → s .ended ≡ true → playList [] from s ≡ ended s
+unfolding playList
+ends-here s from = ap (λ (b : Bool). cond b (ended s) (stopped 1 from))
+
+reads-on : (most : ℕ) (book : List ℕ) (at : ℕ) (s t : Survey) → playUpTo most book at s ≡ ended t → (from : ℕ)
+    → playList (reach book at .commands) from s ≡ ended t
+unfolding playUpToBy playList
+reads-on zero book at s t = λ e. is-stopped e
+reads-on (suc most) book at s t =
+    let Goal : Played → Type 0 = λ p. p ≡ ended t → (from : ℕ) → playList (reach book at .commands) from s ≡ ended t in
+    cond-cases Goal (s .ended) _ _
+    (λ is-ended.
+    cond-cases Goal (ltb at (length book)) _ _ (λ some-left e. is-stopped e) (λ none-left e from.
+    rw (reach-refused book at 1 (read-at-end book at (ltb-false at (length book) none-left))) (ends-here s from is-ended ∙ e)))
+    (λ not-ended.
+    met-cases Goal at (step book at s) _ (λ n refuses e. is-stopped e) (λ r gave e from.
+    let k = taken book at s (r .0) (r .1) gave in
+    rw (reach-on book at (k .command) (r .1) (k .is-read), k .is-applied)
+    (reads-on most book (r .1) (r .0) t e (from + length (encode (k .command))))))
+
+pub play-reads : (book : List ℕ) (t : Survey) → play book ≡ ended t → playList (reach book 0 .commands) 0 fresh ≡ ended t
+unfolding play
+play-reads book t e = reads-on (suc (length book)) book 0 fresh t e 0

@@ -11,15 +11,14 @@ use Rattle.biomass.specs.Report.{gives}
 use Rattle.survey.specs.Bytes.{AllBytes}
 use Rattle.survey.specs.Command.{Fits}
 use Rattle.survey.specs.Line.{emptyRow}
-use Rattle.survey.specs.Survey.{noLine, fresh, apply}
-use Rattle.survey.specs.Closings.{closingRow}
+use Rattle.survey.specs.Survey.{mostLines, noLine, fresh, closingRow}
+use Rattle.survey.specs.Apply.{apply}
 use Rattle.survey.specs.Valid.{rowAt, Valid}
 use Rattle.survey.specs.Playing.{ended, play}
-use Rattle.survey.specs.Sheet.{rowsOf, findRow}
+use Rattle.survey.specs.Sheet.{sheetLength, rowsOf, findRow}
 use Rattle.survey.specs.Total.{sheetAfter}
 use Rattle.survey.specs.Law.RoundTrip.{read-is-encoded}
-use Rattle.survey.specs.Law.Sheet.{RowFits, row-reads-back, rows-number, at-most-32}
-use Rattle.survey.specs.Law.Checks.{declared-true}
+use Rattle.survey.specs.Law.Sheet.{RowFits, row-reads-back, rows-number, rows-at-most}
 use Rattle.survey.specs.Law.Taken.{declare-gives, factor-gives, open-gives, measure-gives, height-gives, finish-gives}
 use Rattle.survey.specs.Law.Closing.{closes-to}
 use Rattle.survey.specs.Law.Valid.{always, fresh-valid, set-cases}
@@ -37,10 +36,11 @@ Strata s = (s .line .stratum < 256) × ((i : ℕ) → rowAt s i .stratum < 256)
 
 fresh-strata : Strata fresh
 unfolding fresh
-fresh-strata = (omega arith, λ i. let none = ap (λ (r : Row). r .stratum) (always 32 i (emptyRow noLine)) in omega (arith, none))
+fresh-strata = (omega arith, λ i. let none = ap (λ (r : Row). r .stratum) (always mostLines i (emptyRow noLine)) in omega (arith, none))
 
 -- only opening brings a new stratum, and closing puts the line's into its row
 apply-strata : (c : Command) (s t : Survey) → Fits c → Valid s → apply c s ≡ gives t → Strata s → Strata t
+unfolding closingRow
 apply-strata (Command.Species id species) s t f v e k = subst Strata (sym (declare-gives id species s t e .is)) k
 apply-strata (Command.Factor cm factor) s t f v e k = subst Strata (sym (factor-gives cm factor s t e .is)) k
 apply-strata (Command.Open stratum species p q) s t f v e k = subst Strata (sym (open-gives stratum species p q s t e .is)) (f .0, k .1)
@@ -52,7 +52,7 @@ apply-strata Command.Close s t f v e k =
       k .0,
       λ i.
           set-cases (λ (r : Row). r .stratum < 256) (s .rows) (s .closed) i (closingRow s) (emptyRow noLine) (omega (arith, v .places, g .room))
-          (λ same. omega (arith, g .row .stratum, k .0)) (λ other. k .1 i),
+          (λ same. k .0) (λ other. k .1 i),
     )
 apply-strata Command.End s t f v e k = subst Strata (sym (finish-gives s t e .is)) k
 
@@ -72,11 +72,10 @@ module _ (book : List ℕ) (s : Survey) (all : AllBytes book) (accepted : play b
   -- each figure is below 256^k, with k the bytes that the row has for it
   pub rows-fit : (i : ℕ) → i < s .closed → RowFits (rowAt s i)
   rows-fit i inside =
-      let r = kept .0 .rows i inside in
-      let w = r .figures in
+      let w = kept .0 .rows i inside in
       record {
         stratum = kept .1 .1 i;
-        species = omega (arith, declared-true (rowAt s i .species) s (r .is-declared) .in-table);
+        species = omega (arith, w .species);
         tariff = omega (arith, w .tariff);
         d = omega (arith, w .d);
         trees = omega (arith, w .trees);
@@ -85,11 +84,11 @@ module _ (book : List ℕ) (s : Survey) (all : AllBytes book) (accepted : play b
       }
 
 -- the sheet of an accepted book gives its rows back, the i-th by its number
-pub rows-read-back : (book sheet : List ℕ) (s : Survey) → AllBytes book → play book ≡ ended s → 800 ≤ length sheet
+pub rows-read-back : (book sheet : List ℕ) (s : Survey) → AllBytes book → play book ≡ ended s → sheetLength ≤ length sheet
     → (i : ℕ) → i < s .closed → findRow (sheetAfter book sheet) i ≡ gives (rowAt s i)
 rows-read-back book sheet s all accepted room i inside =
     let v = play-valid book s accepted in
     let z = emptyRow noLine in
     let is : getD (rowsOf s) i z ≡ rowAt s i = getD-take (s .closed) (s .rows) i z inside in
-    rw (sheet-applied book sheet, le-ltb (length sheet) 800 room, accepted, ← is)
-    (row-reads-back sheet (rowsOf s) (omega (arith, at-most-32 s v)) i z (omega (arith, rows-number s v)) (rw is (rows-fit book s all accepted i inside)))
+    rw (sheet-applied book sheet, le-ltb (length sheet) sheetLength room, accepted, ← is)
+    (row-reads-back sheet (rowsOf s) (omega (arith, rows-at-most s v)) i z (omega (arith, rows-number s v)) (rw is (rows-fit book s all accepted i inside)))

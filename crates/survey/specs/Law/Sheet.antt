@@ -1,4 +1,4 @@
--- What is proved of the sheet, row by row and byte by byte: each row stands in its own 25 bytes, no byte past the last row changes, and a row that is
+-- What is proved of the sheet, row by row and byte by byte: each row stands in its own bytes, no byte past the last row changes, and a row that is
 -- laid is read back as it was.
 use Prim.Native.Nat.{ℕ, zero, suc, _+_, _*_, _≤_, _<_, zero-le}
 use native.Mathlib.Nat.{le-of-suc-le-suc, not-suc-le-zero}
@@ -13,8 +13,9 @@ use borrow.Author.Tests.{le-leb}
 use Rattle.biomass.specs.Report.{gives}
 use Rattle.survey.specs.Bytes.{byte, numberAt, bytes}
 use Rattle.survey.specs.Writing.{laidAt}
+use Rattle.survey.specs.Survey.{mostLines}
 use Rattle.survey.specs.Valid.{Valid}
-use Rattle.survey.specs.Sheet.{rowBytes, sheetBytes, rowsOf, rowFrom, findRow}
+use Rattle.survey.specs.Sheet.{rowLength, sheetLength, rowBytes, sheetBytes, rowsOf, rowFrom, findRow}
 use Rattle.survey.specs.Law.Bytes.{Stands, before, stands-at, stands-first, stands-second, stands-taken, byte-alone, number-of-bytes}
 use Rattle.survey.specs.Law.RoundTrip.{length-laid, stands-laid, laid-keeps, laid-then}
 use Rattle.survey.specs.declared.row.Row.{Row}
@@ -22,11 +23,15 @@ use Rattle.survey.specs.declared.survey.Survey.{Survey}
 
 -- ---- how long rows are
 
-pub length-row : (r : Row) → length (rowBytes r) ≡ 25
+pub length-row : (r : Row) → length (rowBytes r) ≡ rowLength
 unfolding rowBytes
 length-row r = refl
 
-pub length-sheet : (rs : List Row) → length (sheetBytes rs) ≡ 25 * length rs
+-- "800 bytes" are room for 32 rows
+pub room-for-all : mostLines * rowLength ≡ sheetLength
+room-for-all = refl
+
+pub length-sheet : (rs : List Row) → length (sheetBytes rs) ≡ rowLength * length rs
 unfolding sheetBytes
 length-sheet [] = refl
 length-sheet (r ∷ rs) = rw length-append (omega (arith, length-row r, length-sheet rs))
@@ -39,9 +44,9 @@ unfolding sheetBytes
 sheet-snoc [] r = append-nil (rowBytes r)
 sheet-snoc (q ∷ rs) r = rw (sheet-snoc rs r, append-assoc)
 
--- rows that stand from a place on stand 25 bytes apart
+-- rows that stand from a place on stand a row's length apart
 row-apart : (rows : List Row) (i : ℕ) (z : Row) {s : List ℕ} {at : ℕ} → i < length rows → Stands (sheetBytes rows) s at
-    → Stands (rowBytes (getD rows i z)) s (at + 25 * i)
+    → Stands (rowBytes (getD rows i z)) s (at + rowLength * i)
 unfolding sheetBytes
 row-apart [] i z inside h = absurd (not-suc-le-zero inside)
 row-apart (r ∷ rows) zero z inside h = stands-at (stands-first (rowBytes r) (sheetBytes rows) h) (omega arith)
@@ -49,7 +54,7 @@ row-apart (r ∷ rows) (suc i) z inside h =
     let apart = row-apart rows i z (le-of-suc-le-suc inside) (stands-second (rowBytes r) (sheetBytes rows) h) in
     stands-at apart (omega (arith, length-row r))
 
--- ---- a row in its 25 bytes
+-- ---- a row in its bytes
 
 -- the row's figures fit their bytes
 pub record RowFits (r : Row) : Type 0 where
@@ -85,42 +90,42 @@ row-of-bytes r s at f (before e₁ (before e₂ (before e₃ h))) =
 module _ (sheet : List ℕ) (rows : List Row) where
   -- the rows before the i-th, and then the i-th after them
   pub laid-one-more : (i : ℕ) (z : Row) → i < length rows
-      → laidAt (laidAt sheet 0 (sheetBytes (take i rows))) (25 * i) (rowBytes (getD rows i z)) ≡ laidAt sheet 0 (sheetBytes (take (i + 1) rows))
+      → laidAt (laidAt sheet 0 (sheetBytes (take i rows))) (rowLength * i) (rowBytes (getD rows i z)) ≡ laidAt sheet 0 (sheetBytes (take (i + 1) rows))
   laid-one-more i z inside =
       let b = sheetBytes (take i rows) in
-      let place : 25 * i ≡ 0 + length b = omega (arith, length-sheet (take i rows), length-take-le i rows (omega arith)) in
+      let place : rowLength * i ≡ 0 + length b = omega (arith, length-sheet (take i rows), length-take-le i rows (omega arith)) in
       let next : sheetBytes (take (i + 1) rows) ≡ b ++ rowBytes (getD rows i z) =
       rw (add-one, take-suc rows i z inside) (sheet-snoc (take i rows) (getD rows i z)) in
       rw (place, next) (laid-then sheet 0 b zero-le (rowBytes (getD rows i z)))
 
   -- nothing past the rows changes
-  pub rest-stays : (j : ℕ) → 25 * length rows ≤ j → byte (laidAt sheet 0 (sheetBytes rows)) j ≡ byte sheet j
+  pub rest-stays : (j : ℕ) → rowLength * length rows ≤ j → byte (laidAt sheet 0 (sheetBytes rows)) j ≡ byte sheet j
   rest-stays j past = laid-keeps sheet 0 (sheetBytes rows) zero-le j (inr (omega (arith, length-sheet rows)))
 
-  module _ (room : 25 * length rows ≤ length sheet) where
+  module _ (room : rowLength * length rows ≤ length sheet) where
     -- a sheet that the rows fit is as long as it was
     pub laid-length : length (laidAt sheet 0 (sheetBytes rows)) ≡ length sheet
     laid-length = length-laid sheet 0 (sheetBytes rows) (omega (arith, length-sheet rows))
 
     module _ (i : ℕ) (z : Row) (inside : i < length rows) where
-      fits : 25 * i + 25 ≤ length (laidAt sheet 0 (sheetBytes rows))
+      fits : rowLength * i + rowLength ≤ length (laidAt sheet 0 (sheetBytes rows))
       fits = omega (arith, laid-length)
 
-      stands : Stands (rowBytes (getD rows i z)) (laidAt sheet 0 (sheetBytes rows)) (25 * i)
+      stands : Stands (rowBytes (getD rows i z)) (laidAt sheet 0 (sheetBytes rows)) (rowLength * i)
       stands = stands-at (row-apart rows i z inside (stands-laid sheet 0 (sheetBytes rows) zero-le)) (omega arith)
 
       -- "A row is 25 bytes ... in closing order": the i-th stands from byte 25·i on
-      pub row-stands : take 25 (drop (25 * i) (laidAt sheet 0 (sheetBytes rows))) ≡ rowBytes (getD rows i z)
+      pub row-stands : take rowLength (drop (rowLength * i) (laidAt sheet 0 (sheetBytes rows))) ≡ rowBytes (getD rows i z)
       row-stands =
           let r = getD rows i z in
-          rw (length-row r) at (stands-taken (rowBytes r) (laidAt sheet 0 (sheetBytes rows)) (25 * i) stands (omega (arith, fits, length-row r)))
+          rw (length-row r) at (stands-taken (rowBytes r) (laidAt sheet 0 (sheetBytes rows)) (rowLength * i) stands (omega (arith, fits, length-row r)))
 
       -- a row that is laid and read is the same row
       pub row-reads-back : RowFits (getD rows i z) → findRow (laidAt sheet 0 (sheetBytes rows)) i ≡ gives (getD rows i z)
       unfolding findRow
       row-reads-back f =
           let laid = laidAt sheet 0 (sheetBytes rows) in
-          rw (le-leb (25 * i + 25) (length laid) fits) (ap gives (row-of-bytes (getD rows i z) laid (25 * i) f stands))
+          rw (le-leb (rowLength * i + rowLength) (length laid) fits) (ap gives (row-of-bytes (getD rows i z) laid (rowLength * i) f stands))
 
 -- ---- the rows of a valid survey
 
@@ -129,9 +134,9 @@ module _ (s : Survey) (v : Valid s) where
   pub rows-number : length (rowsOf s) ≡ s .closed
   rows-number = length-take-le (s .closed) (s .rows) (omega (arith, v .lines, v .places))
 
-  pub at-most-32 : length (rowsOf s) ≤ 32
-  at-most-32 = omega (arith, rows-number, v .lines)
+  pub rows-at-most : length (rowsOf s) ≤ mostLines
+  rows-at-most = omega (arith, rows-number, v .lines)
 
-  -- "800 bytes" are room for 32 rows
-  pub sheet-as-long : (sheet : List ℕ) → 800 ≤ length sheet → length (laidAt sheet 0 (sheetBytes (rowsOf s))) ≡ length sheet
-  sheet-as-long sheet room = laid-length sheet (rowsOf s) (omega (arith, at-most-32))
+  -- so that a sheet which is not too short keeps its length
+  pub sheet-as-long : (sheet : List ℕ) → sheetLength ≤ length sheet → length (laidAt sheet 0 (sheetBytes (rowsOf s))) ≡ length sheet
+  sheet-as-long sheet room = laid-length sheet (rowsOf s) (omega (arith, rows-at-most))

@@ -8,6 +8,7 @@ use lib.Dec.{lit≤}
 use Rattle.biomass.specs.Report.{gives}
 use Rattle.biomass.specs.Project.{projectOf, greatestSum, project}
 use Rattle.biomass.specs.Law.Report.{true-inside}
+use Rattle.survey.specs.Survey.{mostLines}
 use Rattle.survey.specs.Total.{sumOf, treesOf, lowOf, highOf, sums}
 use Rattle.survey.specs.declared.row.Row.{Row}
 
@@ -32,7 +33,7 @@ sums-small rows RowsSmall.none = (lit≤ tt, lit≤ tt, lit≤ tt)
 sums-small rows (RowsSmall.more r rs few ordered small h) = let rest = sums-small rs h in omega arith
 
 -- so that eleven times the sums of 32 rows fit 64 bits, and `project` gives its figures
-pub project-gives : (rows : List Row) → RowsSmall rows → length rows ≤ 32
+pub project-gives : (rows : List Row) → RowsSmall rows → length rows ≤ mostLines
     → project (sums rows) (sumOf treesOf rows) ≡ gives (projectOf (sums rows) (sumOf treesOf rows))
 unfolding project
 project-gives rows h most =

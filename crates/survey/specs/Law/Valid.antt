@@ -1,6 +1,6 @@
 -- The fresh survey is valid, and every command that is taken leaves a valid survey valid: what it notes has passed its checks, and what was noted
 -- before stays as it was (Law.Once).
-use Prim.Native.Nat.{ℕ, zero, suc, _+_, _*_, _≤_, _<_, zero-le}
+use Prim.Native.Nat.{ℕ, zero, suc, _+_, _<_, zero-le}
 use native.Mathlib.Numerals.{add-one}
 use native.Mathlib.Decide.{ℕ-discrete}
 use native.Mathlib.Omega.{arith}
@@ -8,25 +8,26 @@ use mathlib.Core.Path.{_≡_, _∙_, refl, sym, ap, subst}
 use mathlib.Core.Bool.{Bool, true, false, cond, true≢false, false≢true}
 use mathlib.Core.Logic.{_≢_}
 use mathlib.Core.List.{List, [], _∷_, _++_}
-use lib.ListN.{length, getD, take, set, replicate, length-set, length-replicate}
+use lib.ListN.{length, getD, set, replicate, length-set, length-replicate}
 use lib.Seq.{getD-set-same, getD-set-other, take-suc-set}
 use lib.Dec.{ltb}
 use Rattle.biomass.specs.Whole.{inside}
 use Rattle.biomass.specs.Report.{Report, refused, gives}
-use Rattle.biomass.specs.Law.Report.{Inside}
 use Rattle.biomass.specs.Law.Tariff.{single-tariff-range}
-use Rattle.survey.specs.Line.{lineWith, begun, withTrees, withHeight, emptyRow, factorAt}
-use Rattle.survey.specs.Survey.{undeclared, noLine, fresh, speciesAt, withSpecies, withFactors, withRow, isLine, anyLine, opened, leaves, apply, reached}
-use Rattle.survey.specs.Closings.{closingRow}
-use Rattle.survey.specs.Valid.{ValidSpecies, ValidFactor, ValidLine, ValidRow, Apart, none, more, rowAt, Valid}
+use Rattle.survey.specs.Line.{lineWith, begun, withTrees, withHeight, factorAt, emptyRow}
+use Rattle.survey.specs.Survey.{leaves, mostLines, undeclared, noLine, fresh, speciesAt, withState, withSpecies, withFactor, isLine, anyLine, opened, closingRow}
+use Rattle.survey.specs.Apply.{apply, reached}
+use Rattle.survey.specs.Valid.{ValidSpecies, ValidFactor, ValidTally, ValidHeights, ValidLine, Within, Apart, none, more, rowAt, Valid}
 use Rattle.survey.specs.Law.Checks.{declared-true, is-line-symmetric}
 use Rattle.survey.specs.Law.Taken.{declare-gives, factor-gives, open-gives, measure-gives, height-gives, finish-gives}
 use Rattle.survey.specs.Law.Once.{species-stay, declared-stays, rows-stay}
-use Rattle.survey.specs.Law.AsWritten.{squares-added}
+use Rattle.survey.specs.Law.AsWritten.{tallied-valid, height-added}
 use Rattle.survey.specs.Law.Closing.{closes-to}
 use Rattle.survey.specs.declared.command.Species.{Species}
 use Rattle.survey.specs.declared.command.Command.{Command}
 use Rattle.survey.specs.declared.row.Row.{Row}
+use Rattle.survey.specs.declared.line.Tally.{Tally}
+use Rattle.survey.specs.declared.line.Heights.{Heights}
 use Rattle.survey.specs.declared.line.Line.{Line}
 use Rattle.survey.specs.declared.survey.Survey.{Survey}
 
@@ -44,7 +45,7 @@ fresh-valid =
     record {
       ids = length-replicate 16 undeclared;
       cms = length-replicate {A = ℕ} 101 0;
-      places = length-replicate 32 (emptyRow noLine);
+      places = length-replicate mostLines (emptyRow noLine);
       species = λ id h.
           let none : speciesAt fresh id .gravity ≡ 0 = ap (λ (x : Species). x .gravity) (always 16 id undeclared) in
           let some = declared-true id fresh h .gravity in
@@ -70,12 +71,9 @@ set-cases P l i j a d fits at-i elsewhere = by-cases (ℕ-discrete j i)
     by-cases (no other) = subst P (sym (getD-set-other l i j a d other)) (elsewhere other)
 
 module _ (c : Command) (s t : Survey) (e : apply c s ≡ gives t) where
-  row-stays : (r : Row) → ValidRow s r → ValidRow t r
-  row-stays r v = record { is-declared = declared-stays c s t e (r .species) (v .is-declared); figures = v .figures }
-
   -- the rows of the lines that were closed before
-  old-rows : Valid s → (i : ℕ) → i < s .closed → ValidRow t (rowAt t i)
-  old-rows v i h = subst (ValidRow t) (sym (rows-stay c s t e .rows i h)) (row-stays (rowAt s i) (v .rows i h))
+  old-rows : Valid s → (i : ℕ) → i < s .closed → Within (rowAt t i)
+  old-rows v i h = subst Within (sym (rows-stay c s t e .rows i h)) (v .rows i h)
 
   line-stays : (l : Line) → t .closed ≡ s .closed → t .rows ≡ s .rows → ValidLine s l → ValidLine t l
   unfolding opened
@@ -85,35 +83,25 @@ module _ (c : Command) (s t : Survey) (e : apply c s ≡ gives t) where
         species = v .species ∙ sym (species-stay c s t e (l .id) (v .is-declared));
         p = v .p;
         q = v .q;
-        trees = v .trees;
-        squares = v .squares;
+        tally = v .tally;
         heights = v .heights;
-        tariffs = v .tariffs;
         first = rw (closed, rows) (v .first);
       }
 
 -- ---- the commands
 
--- the survey with another line, open or not, ended or not
-abbrev lined : Survey → Bool → Line → Bool → Survey
-lined s active l ended =
-    record { species = s .species; factors = s .factors; rows = s .rows; closed = s .closed; active = active; line = l; ended = ended }
-
 -- an open line with other trees noted, within the limits
-noted-valid : (s : Survey) (l : Line) (active ended : Bool) (n S heights tariffs : ℕ) → ValidLine s l →
-    n ≤ 1000000 → Inside (49 * n) S (10000 * n) → heights ≤ 1000 → Inside heights tariffs (50 * heights) →
-    ValidLine (lined s active (lineWith l n S heights tariffs) ended) (lineWith l n S heights tariffs)
+noted-valid : (s : Survey) (l : Line) (active ended : Bool) (tally : Tally) (heights : Heights) → ValidLine s l → ValidTally tally → ValidHeights heights →
+    ValidLine (withState s active (lineWith l tally heights) ended) (lineWith l tally heights)
 unfolding opened
-noted-valid s l active ended n S heights tariffs v in-n in-S in-heights in-tariffs =
+noted-valid s l active ended tally heights v in-tally in-heights =
     record {
       is-declared = v .is-declared;
       species = v .species;
       p = v .p;
       q = v .q;
-      trees = in-n;
-      squares = in-S;
+      tally = in-tally;
       heights = in-heights;
-      tariffs = in-tariffs;
       first = v .first;
     }
 
@@ -121,7 +109,7 @@ module _ (s : Survey) (v : Valid s) where
   declare-valid : (t : Survey) (new : ℕ) (species : Species) → apply (Command.Species new species) s ≡ gives t → Valid t
   declare-valid t new species e =
       let g = declare-gives new species s t e in
-      let after = withSpecies s (set (s .species) new species) in
+      let after = withSpecies s new species in
       let e′ : apply (Command.Species new species) s ≡ gives after = e ∙ ap gives (g .is) in
       subst Valid (sym (g .is)) (record {
         ids = length-set (s .species) new species ∙ v .ids;
@@ -142,7 +130,7 @@ module _ (s : Survey) (v : Valid s) where
   factor-valid : (t : Survey) (new factor : ℕ) → apply (Command.Factor new factor) s ≡ gives t → Valid t
   factor-valid t new factor e =
       let g = factor-gives new factor s t e in
-      let after = withFactors s (set (s .factors) new factor) in
+      let after = withFactor s new factor in
       let e′ : apply (Command.Factor new factor) s ≡ gives after = e ∙ ap gives (g .is) in
       subst Valid (sym (g .is)) (record {
         ids = v .ids;
@@ -161,8 +149,8 @@ module _ (s : Survey) (v : Valid s) where
       })
 
   -- commands that change only the line, or whether it is open or the book has ended
-  line-valid : (c : Command) (t : Survey) (active : Bool) (l : Line) (ended : Bool) → apply c s ≡ gives t → t ≡ lined s active l ended →
-      (active ≡ true → s .closed < 32) → (active ≡ true → ValidLine (lined s active l ended) l) → (ended ≡ true → active ≡ false) → Valid t
+  line-valid : (c : Command) (t : Survey) (active : Bool) (l : Line) (ended : Bool) → apply c s ≡ gives t → t ≡ withState s active l ended →
+      (active ≡ true → s .closed < mostLines) → (active ≡ true → ValidLine (withState s active l ended) l) → (ended ≡ true → active ≡ false) → Valid t
   line-valid c t active l ended e is room line finished =
       subst Valid (sym is) (record {
         ids = v .ids;
@@ -172,7 +160,7 @@ module _ (s : Survey) (v : Valid s) where
         factors = v .factors;
         lines = v .lines;
         room = room;
-        rows = old-rows c s (lined s active l ended) (e ∙ ap gives is) v;
+        rows = old-rows c s (withState s active l ended) (e ∙ ap gives is) v;
         apart = v .apart;
         line = line;
         finished = finished;
@@ -189,10 +177,8 @@ module _ (s : Survey) (v : Valid s) where
         species = refl;
         p = g .p-range;
         q = g .q-range;
-        trees = zero-le;
-        squares = omega arith;
-        heights = zero-le;
-        tariffs = omega arith;
+        tally = record { few = zero-le; squares = omega arith };
+        heights = record { few = zero-le; tariffs = omega arith };
         first = g .first;
       })
       (λ ended. absurd (true≢false (sym ended ∙ g .not-ended)))
@@ -202,9 +188,9 @@ module _ (s : Survey) (v : Valid s) where
       let g = measure-gives class count s t e in
       let l = s .line in
       let vl = v .line (g .is-open) in
-      let S = squares-added (l .n) (l .squares) class count (vl .squares) (g .class-range) in
+      let tally = tallied-valid (l .tally) class count (vl .tally) (g .class-range) (g .trees) in
       line-valid (Command.Measured class count) t (s .active) (withTrees class count l) (s .ended) e (g .is)
-      (v .room) (λ is-open. noted-valid s l (s .active) (s .ended) _ _ _ _ vl (g .trees) S (vl .heights) (vl .tariffs)) (v .finished)
+      (v .room) (λ is-open. noted-valid s l (s .active) (s .ended) _ _ vl tally (vl .heights)) (v .finished)
 
   height-valid : (t : Survey) (cm tenths : ℕ) → apply (Command.Height cm tenths) s ≡ gives t → Valid t
   height-valid t cm tenths e =
@@ -213,10 +199,9 @@ module _ (s : Survey) (v : Valid s) where
       let c = l .species in
       let vl = v .line (g .is-open) in
       let T-range = single-tariff-range (c .c1) (c .c2) (c .c3) (c .c4) cm tenths (g .tariff) (g .tariff-is) in
-      let heights : l .heights + 1 ≤ 1000 = omega (arith, g .room) in
-      let tariffs : Inside (l .heights + 1) (l .tariffs + g .tariff) (50 * (l .heights + 1)) = omega (arith, vl .tariffs) in
+      let heights = height-added (l .heights) (g .tariff) (vl .heights) T-range (g .room) in
       line-valid (Command.Height cm tenths) t (s .active) (withHeight (g .tariff) l) (s .ended) e (g .is)
-      (v .room) (λ is-open. noted-valid s l (s .active) (s .ended) _ _ _ _ vl (vl .trees) (vl .squares) heights tariffs) (v .finished)
+      (v .room) (λ is-open. noted-valid s l (s .active) (s .ended) _ _ vl (vl .tally) heights) (v .finished)
 
   finish-valid : (t : Survey) → apply Command.End s ≡ gives t → Valid t
   finish-valid t e =
@@ -245,17 +230,11 @@ apart-after r (more x l first a) h =
     more x (l ++ (r ∷ [])) (any-after (x .stratum) (x .species) l r first (is-line-symmetric x r ∙ parts .0)) (apart-after r a (parts .1))
 
 close-valid : (s t : Survey) → Valid s → apply Command.Close s ≡ gives t → Valid t
-unfolding opened
+unfolding opened closingRow
 close-valid s t v e =
     let g = closes-to s t v e in
     let r = closingRow s in
-    let vl = v .line (g .is-open) in
-    let after = withRow s r in
-    let e′ : apply Command.Close s ≡ gives after = e ∙ ap gives (g .is) in
     let fits : s .closed < length (s .rows) = omega (arith, v .places, g .room) in
-    let own = g .row in
-    let valid : ValidRow s r = record { is-declared = rw (own .species) (vl .is-declared); figures = own .within } in
-    let first : anyLine (r .stratum) (r .species) (take (s .closed) (s .rows)) ≡ false = rw (own .stratum, own .species) (vl .first) in
     subst Valid (sym (g .is)) (record {
       ids = v .ids;
       cms = v .cms;
@@ -265,9 +244,8 @@ close-valid s t v e =
       lines = omega (arith, g .room);
       room = λ is-open. absurd (false≢true is-open);
       rows = λ i h.
-          set-cases (ValidRow after) (s .rows) (s .closed) i r (emptyRow noLine) fits (λ same. row-stays Command.Close s after e′ r valid)
-          (λ other. row-stays Command.Close s after e′ (rowAt s i) (v .rows i (omega arith)));
-      apart = rw (add-one, take-suc-set (s .rows) (s .closed) r fits) (apart-after r (v .apart) first);
+          set-cases Within (s .rows) (s .closed) i r (emptyRow noLine) fits (λ same. g .worked .within) (λ other. v .rows i (omega arith));
+      apart = rw (add-one, take-suc-set (s .rows) (s .closed) r fits) (apart-after r (v .apart) (v .line (g .is-open) .first));
       line = λ is-open. absurd (false≢true is-open);
       finished = λ ended. refl;
     })

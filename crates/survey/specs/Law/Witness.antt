@@ -4,12 +4,12 @@ use Prim.Native.Nat.{ℕ, _+_, _≤_, _<_}
 use native.Mathlib.Omega.{arith}
 use mathlib.Core.Path.{_≡_, _∙_, refl, sym, ap}
 use mathlib.Core.Bool.{true≢false}
-use lib.ListN.{set}
 use lib.Seq.{getD-set-same}
 use lib.Dec.{lit≤, lit<}
 use Rattle.biomass.specs.Report.{Report, refused, gives}
-use Rattle.survey.specs.Line.{begun, factorAt, withTrees, measured}
-use Rattle.survey.specs.Survey.{After, leaves, undeclared, fresh, speciesAt, withSpecies, withLine, withOpened, declare, opened, openLine, measure, finish, apply}
+use Rattle.survey.specs.Line.{begun, withTrees, factorAt}
+use Rattle.survey.specs.Survey.{After, leaves, mostLines, undeclared, fresh, speciesAt, withSpecies, withOpened, withLine, declare, opened, openLine, finish}
+use Rattle.survey.specs.Apply.{measured, applyMeasured, apply}
 use Rattle.survey.specs.Valid.{Valid}
 use Rattle.survey.specs.Listing.{listed, species3, line1, fourTrees}
 use Rattle.survey.specs.Law.Checks.{true-declared}
@@ -38,11 +38,11 @@ taken-changes (Command.Open stratum species p q) s t v e same =
     true≢false (ap (λ (x : Survey). x .active) (sym (g .is) ∙ same) ∙ g .none-open)
 taken-changes (Command.Measured class count) s t v e same =
     let g = measure-gives class count s t e in
-    let more : s .line .n ≡ s .line .n + count = ap (λ (x : Survey). x .line .n) (sym same ∙ g .is) in
+    let more : s .line .tally .n ≡ s .line .tally .n + count = ap (λ (x : Survey). x .line .tally .n) (sym same ∙ g .is) in
     omega arith
 taken-changes (Command.Height cm tenths) s t v e same =
     let g = height-gives cm tenths s t e in
-    let more : s .line .heights ≡ s .line .heights + 1 = ap (λ (x : Survey). x .line .heights) (sym same ∙ g .is) in
+    let more : s .line .heights .number ≡ s .line .heights .number + 1 = ap (λ (x : Survey). x .line .heights .number) (sym same ∙ g .is) in
     omega arith
 taken-changes Command.Close s t v e same =
     let more : s .closed ≡ s .closed + 1 = ap (λ (x : Survey). x .closed) (sym same ∙ close-gives s t e .is) in
@@ -64,29 +64,29 @@ told-at-limit c s = by-cases (apply c s) (limit-told c s)
     by-cases (refused n) told e = told (ap refused e)
     by-cases (gives t) told e = absurd (omega arith)
 
-pub lines-below-limit : (stratum id p q : ℕ) (s u : Survey) → s .closed < 32 →
+pub lines-below-limit : (stratum id p q : ℕ) (s u : Survey) → s .closed < mostLines →
     leaves s (apply (Command.Open stratum id p q) s) ≡ record { survey = u; refusal = 11 } → ⊥
 lines-below-limit stratum id p q s u below e =
-    let at : 32 ≤ s .closed = told-at-limit (Command.Open stratum id p q) s (ap (λ (x : After). x .refusal) e) in
+    let at : mostLines ≤ s .closed = told-at-limit (Command.Open stratum id p q) s (ap (λ (x : After). x .refusal) e) in
     omega arith
 
-pub trees-below-limit : (class count : ℕ) (s u : Survey) → s .line .n + count ≤ 1000000 →
+pub trees-below-limit : (class count : ℕ) (s u : Survey) → s .line .tally .n + count ≤ 1000000 →
     leaves s (apply (Command.Measured class count) s) ≡ record { survey = u; refusal = 11 } → ⊥
 trees-below-limit class count s u below e =
-    let over : 1000000 < s .line .n + count = told-at-limit (Command.Measured class count) s (ap (λ (x : After). x .refusal) e) in
+    let over : 1000000 < s .line .tally .n + count = told-at-limit (Command.Measured class count) s (ap (λ (x : After). x .refusal) e) in
     omega arith
 
-pub heights-below-limit : (cm tenths : ℕ) (s u : Survey) → s .line .heights < 1000 →
+pub heights-below-limit : (cm tenths : ℕ) (s u : Survey) → s .line .heights .number < 1000 →
     leaves s (apply (Command.Height cm tenths) s) ≡ record { survey = u; refusal = 11 } → ⊥
 heights-below-limit cm tenths s u below e =
-    let at : 1000 ≤ s .line .heights = told-at-limit (Command.Height cm tenths) s (ap (λ (x : After). x .refusal) e) in
+    let at : 1000 ≤ s .line .heights .number = told-at-limit (Command.Height cm tenths) s (ap (λ (x : After). x .refusal) e) in
     omega arith
 
 -- ---- at one place: the commands of the listing, up to its first measured trees, and the end of an empty book
 
 unfoldable pub withSpecies3 : Survey
 unfolding fresh
-withSpecies3 = withSpecies fresh (set (fresh .species) 3 listed)
+withSpecies3 = withSpecies fresh 3 listed
 
 unfoldable pub withLine1 : Survey
 unfolding withSpecies3
@@ -106,7 +106,7 @@ unfolding fresh opened openLine withSpecies3 withLine1
 line-taken = refl
 
 pub trees-taken : leaves withLine1 (apply fourTrees withLine1) ≡ record { survey = withFourTrees; refusal = 0 }
-unfolding fresh measured measure withSpecies3 withLine1 withFourTrees
+unfolding fresh measured applyMeasured withSpecies3 withLine1 withFourTrees
 trees-taken = refl
 
 -- none is swallowed: a line is open after the one, 4 trees are noted after the other, and an ended book has ended
@@ -116,7 +116,7 @@ line-not-swallowed e = true≢false (ap (λ (x : After). x .survey .active) (sym
 
 pub trees-not-swallowed : leaves withLine1 (apply fourTrees withLine1) ≡ record { survey = withLine1; refusal = 0 } → ⊥
 unfolding fresh withSpecies3 withLine1 withFourTrees
-trees-not-swallowed e = let four : _≡_ {A = ℕ} 4 0 = ap (λ (x : After). x .survey .line .n) (sym trees-taken ∙ e) in omega arith
+trees-not-swallowed e = let four : _≡_ {A = ℕ} 4 0 = ap (λ (x : After). x .survey .line .tally .n) (sym trees-taken ∙ e) in omega arith
 
 pub end-not-swallowed : leaves fresh (apply Command.End fresh) ≡ record { survey = fresh; refusal = 0 } → ⊥
 unfolding fresh finish

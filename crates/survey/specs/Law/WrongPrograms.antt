@@ -1,7 +1,7 @@
 -- "Offer these in turn and see them rejected." The six wrong programs of document 01's last section, and its low of 0: each is offered the listing and a sheet
 -- of 800 bytes or more, and what it would hand back is not what totalling promises. "Demand 2 shuts out all six. A low of 0 with a vast high falls to both 2
 -- and 3." (Law.Witness has the two of them that are about one command.)
-use Prim.Native.Nat.{ℕ, _≤_}
+use Prim.Native.Nat.{ℕ, _+_, _*_, _≤_}
 use native.Mathlib.Omega.{arith}
 use mathlib.Core.Path.{_≡_, _∙_, sym, ap}
 use mathlib.Core.List.{List, [], _∷_, _++_}
@@ -15,13 +15,13 @@ use Rattle.biomass.specs.Exact.{Given, exactStem, exactCrown, exactRoot}
 use Rattle.biomass.specs.Law.Fraction.{≼-trans}
 use Rattle.biomass.specs.Law.Signed.{pos-le}
 use Rattle.survey.specs.Bytes.{byte, numberAt}
-use Rattle.survey.specs.Book.{encodeAll}
 use Rattle.survey.specs.Reading.{speciesFrom, openFrom, commandFrom, read}
 use Rattle.survey.specs.Writing.{laidAt}
-use Rattle.survey.specs.Line.{lineRow}
-use Rattle.survey.specs.Survey.{fresh, declare, opened, openLine, kept, close, finish}
+use Rattle.survey.specs.Book.{encodeAll}
+use Rattle.survey.specs.Survey.{fresh, declare, opened, openLine, finish}
+use Rattle.survey.specs.Apply.{lineRow, kept, applyClose}
 use Rattle.survey.specs.Playing.{stepBy, playUpToBy, play}
-use Rattle.survey.specs.Sheet.{rowBytes, sheetBytes}
+use Rattle.survey.specs.Sheet.{rowLength, sheetLength, rowBytes, sheetBytes}
 use Rattle.survey.specs.Total.{Answer, refusedAt, totalled, total, sheetAfter}
 use Rattle.survey.specs.Demand3.{Fractions, NoneAbove, more, none, added, exactSum, exactTotal, Demand3, Demanded, linesOf}
 use Rattle.survey.specs.Listing.{species3, line2, listing, listingTotals, row1, row2}
@@ -41,15 +41,15 @@ pub record Promised (book sheet : List ℕ) (r : Answer) (after : List ℕ) : Ty
 unfoldable pub secondLine : List ℕ
 secondLine = encodeAll (species3 ∷ line2 ∷ Command.Close ∷ Command.End ∷ [])
 
-second-sheet : (sheet : List ℕ) → 800 ≤ length sheet → sheetAfter secondLine sheet ≡ rowBytes row2 ++ drop 25 sheet
+second-sheet : (sheet : List ℕ) → sheetLength ≤ length sheet → sheetAfter secondLine sheet ≡ rowBytes row2 ++ drop rowLength sheet
 unfolding
-    secondLine encodeAll speciesFrom openFrom commandFrom read fresh declare opened openLine lineRow kept close finish stepBy playUpToBy play
+    secondLine encodeAll speciesFrom openFrom commandFrom read fresh declare opened openLine lineRow kept applyClose finish stepBy playUpToBy play
     laidAt sheetBytes rowBytes
-second-sheet sheet room = sheet-applied secondLine sheet ∙ rw (le-ltb (length sheet) 800 room)
+second-sheet sheet room = sheet-applied secondLine sheet ∙ rw (le-ltb (length sheet) sheetLength room)
 
 -- ---- "Demand 2 shuts out all six."
 
-module _ {sheet after : List ℕ} {r : Answer} (room : 800 ≤ length sheet) (promised : Promised listing sheet r after) where
+module _ {sheet after : List ℕ} {r : Answer} (room : sheetLength ≤ length sheet) (promised : Promised listing sheet r after) where
   -- the promised answer and the promised sheet
   answer-is : r ≡ totalled listingTotals
   answer-is = promised .answered ∙ listing-totalled sheet room
@@ -57,26 +57,26 @@ module _ {sheet after : List ℕ} {r : Answer} (room : 800 ≤ length sheet) (pr
   totals-are : (t : Totals) → r ≡ totalled t → t ≡ listingTotals
   totals-are t e = cc answer-is
 
-  sheet-is : after ≡ rowBytes row1 ++ rowBytes row2 ++ drop 50 sheet
+  sheet-is : after ≡ rowBytes row1 ++ rowBytes row2 ++ drop (2 * rowLength) sheet
   sheet-is = promised .laid ∙ listing-sheet sheet room
 
-  first-row : take 25 after ≡ rowBytes row1
+  first-row : take rowLength after ≡ rowBytes row1
   unfolding rowBytes
-  first-row = ap (take 25) sheet-is
+  first-row = ap (take rowLength) sheet-is
 
   -- "a reader that declines every book": the last of the six first, since two of the others are cases of it
   pub not-declined : (n at : ℕ) → r ≡ refusedAt n at → ⊥
   not-declined n at e = let clash : _≡_ {A = ℕ} 0 1 = cc answer-is in omega arith
 
   -- "A sheet whose first line is worked and whose later rows repeat it": the second row is of stratum 2
-  pub not-repeated : take 25 (drop 25 after) ≡ take 25 after → ⊥
+  pub not-repeated : take rowLength (drop rowLength after) ≡ take rowLength after → ⊥
   unfolding rowBytes
   not-repeated e =
       let strata : _≡_ {A = ℕ} 2 1 = ap (λ (l : List ℕ). byte l 0) (rw sheet-is at e) in
       omega arith
 
   -- nor does it repeat the first one's figures under its own stratum and species
-  pub figures-not-repeated : take 23 (drop 27 after) ≡ take 23 (drop 2 after) → ⊥
+  pub figures-not-repeated : take 23 (drop (rowLength + 2) after) ≡ take 23 (drop 2 after) → ⊥
   unfolding rowBytes
   figures-not-repeated e =
       let tariffs : _≡_ {A = ℕ} 0 26 = ap (λ (l : List ℕ). byte l 0) (rw sheet-is at e) in
@@ -93,11 +93,11 @@ module _ {sheet after : List ℕ} {r : Answer} (room : 800 ≤ length sheet) (pr
       omega arith
 
   -- "one row for all books"
-  pub not-one-row : {sheet′ after′ : List ℕ} {r′ : Answer} → 800 ≤ length sheet′ → Promised secondLine sheet′ r′ after′
-      → (row : List ℕ) → take 25 after ≡ row → take 25 after′ ≡ row → ⊥
+  pub not-one-row : {sheet′ after′ : List ℕ} {r′ : Answer} → sheetLength ≤ length sheet′ → Promised secondLine sheet′ r′ after′
+      → (row : List ℕ) → take rowLength after ≡ row → take rowLength after′ ≡ row → ⊥
   unfolding rowBytes
   not-one-row {sheet′} room′ promised′ row e e′ =
-      let second = ap (take 25) (promised′ .laid ∙ second-sheet sheet′ room′) in
+      let second = ap (take rowLength) (promised′ .laid ∙ second-sheet sheet′ room′) in
       let strata : _≡_ {A = ℕ} 1 2 = ap (λ (l : List ℕ). byte l 0) (sym first-row ∙ e ∙ sym e′ ∙ second) in
       omega arith
 

@@ -6,7 +6,8 @@ use Rattle.biomass.specs.Report.{Report, refused, gives}
 use Rattle.biomass.specs.Law.Report.{stops, follows}
 use Rattle.survey.specs.Refusal.{number}
 use Rattle.survey.specs.Reading.{reading}
-use Rattle.survey.specs.Survey.{After, outcome, leaves, apply}
+use Rattle.survey.specs.Survey.{After, outcome, leaves}
+use Rattle.survey.specs.Apply.{apply}
 use Rattle.survey.specs.Playing.{takenTo, stepBy, stepped}
 use Rattle.survey.specs.Law.Named.{refusal-not-zero, number-not-zero}
 use Rattle.survey.specs.declared.survey.Survey.{Survey}

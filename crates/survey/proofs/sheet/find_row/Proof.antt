@@ -1,11 +1,11 @@
--- `survey::sheet::find_row` meets its contract: the quotient of the length by 25 is the number of whole rows.
+-- `survey::sheet::find_row` meets its contract: the quotient of the length by a row's is the number of whole rows.
 use Prim.Native.Nat.{_+_, _*_}
 use native.Mathlib.Omega.{arith}
 use mathlib.Core.Path.{ap}
 use lib.ListN.{length}
 use borrow.Author.Tests.{le-leb, lt-leb}
 use Rattle.biomass.specs.Report.{gives}
-use Rattle.survey.specs.Sheet.{findRow}
+use Rattle.survey.specs.Sheet.{rowLength, findRow}
 use Rattle.survey.proofs.Check.{stop-unless, past-unless}
 use Rattle.survey.proofs.sheet.find_row.Statement.{statement}
 use Rattle.survey.proofs.sheet.find_row.Tie as tie
@@ -14,7 +14,7 @@ returns : tie.Need-returns
 unfolding findRow
 returns c =
     let a = c .before .before .args in
-    stop-unless _ (lt-leb (25 * a .i + 25) (length (a .sheet .now)) (omega arith))
+    stop-unless _ (lt-leb (rowLength * a .i + rowLength) (length (a .sheet .now)) (omega arith))
 
 mul-row-from : tie.Need-mul-row-from
 mul-row-from c = omega arith
@@ -26,7 +26,7 @@ returns-2 : tie.Need-returns-2
 unfolding findRow
 returns-2 c =
     let a = c .before .before .before .args in
-    past-unless 1 _ (le-leb (25 * a .i + 25) (length (a .sheet .now)) (omega arith)) (ap gives (c .row-from .ensures))
+    past-unless 1 _ (le-leb (rowLength * a .i + rowLength) (length (a .sheet .now)) (omega arith)) (ap gives (c .row-from .ensures))
 
 pub find-row-spec : {M : Type 1} → statement M
 find-row-spec = tie.close (tie.spec returns mul-row-from row-from-requires returns-2)

@@ -7,7 +7,8 @@ use lib.ListN.{length, take}
 use lib.Seq.{paste, length-take-le}
 use Rattle.survey.specs.Writing.{laidAt}
 use Rattle.survey.specs.Encoded.{held}
-use Rattle.survey.specs.Sheet.{rowBytes, sheetBytes}
+use Rattle.survey.specs.Survey.{mostLines}
+use Rattle.survey.specs.Sheet.{rowLength, rowBytes, sheetBytes}
 use Rattle.survey.specs.Law.Sheet.{length-row, laid-one-more, laid-length}
 use Rattle.survey.specs.declared.row.Row.{Row}
 use Rattle.survey.specs.declared.encoding.Encoded.{Encoded}
@@ -37,7 +38,7 @@ encode-requires c κs = tt
 as-long : (c : tie.At-loop Inv-loop μ-loop) → length (c .loop .sheet) ≡ length (c .before .before .args .sheet .now)
 as-long c =
     let a = c .before .before .args in
-    let most : c .loop .i ≤ 32 = omega arith in
+    let most : c .loop .i ≤ mostLines = omega arith in
     let rows : c .loop .i ≤ length (a .t2) = omega arith in
     ap length (c .loop .inv .1) ∙ laid-length (a .sheet .now) (take (c .loop .i) (a .t2)) (omega (arith, length-take-le (c .loop .i) (a .t2) rows))
 
@@ -53,12 +54,12 @@ add-i c = omega arith
 loop-less : tie.Need-loop-less Inv-loop μ-loop
 loop-less c = omega arith
 
--- the 25 bytes that hold a row are laid as the row's bytes
-row-laid : (b : List ℕ) (at : ℕ) (r : Row) (e : Encoded) → (held e ≡ rowBytes r) × (e .length ≡ 25)
-    → paste b at (e .bytes) 25 ≡ laidAt b at (rowBytes r)
+-- the bytes that hold a row are laid as the row's bytes
+row-laid : (b : List ℕ) (at : ℕ) (r : Row) (e : Encoded) → (held e ≡ rowBytes r) × (e .length ≡ rowLength)
+    → paste b at (e .bytes) rowLength ≡ laidAt b at (rowBytes r)
 unfolding laidAt
 row-laid b at r e h =
-    let taken : take 25 (e .bytes) ≡ rowBytes r = rw (h .1) at (h .0) in
+    let taken : take rowLength (e .bytes) ≡ rowBytes r = rw (h .1) at (h .0) in
     rw (taken, length-row r)
 
 loop-again : tie.Need-loop-again Inv-loop μ-loop
@@ -68,7 +69,7 @@ loop-again c =
     let a = l .before .before .args in
     let i = l .loop .i in
     let inside : i < length (a .t2) = omega arith in
-    let now = row-laid (l .loop .sheet) (25 * i) _ (e .encode .result) (e .encode .ensures) in
+    let now = row-laid (l .loop .sheet) (rowLength * i) _ (e .encode .result) (e .encode .ensures) in
     (omega arith, c .before .before .lay .ensures ∙ now ∙ rw (l .loop .inv .1) (laid-one-more (a .sheet .now) (a .t2) i _ inside))
 
 same-length : tie.Need-same-length Inv-loop μ-loop

@@ -7,14 +7,15 @@ use mathlib.Core.List.{List}
 use lib.ListN.{length}
 use borrow.Author.Tests.{lt-ltb, le-ltb}
 use Rattle.survey.specs.Refusal.{number}
+use Rattle.survey.specs.Valid.{Valid}
 use Rattle.survey.specs.Playing.{Played, ended, stopped, played, play}
+use Rattle.survey.specs.Sheet.{sheetLength}
 use Rattle.survey.specs.Total.{Answer, refusedAt, answerOf, total, laidBy, sheetAfter}
-use Rattle.survey.specs.Demand3.{Demanded}
 use Rattle.survey.specs.Law.Playing.{play-valid}
 use Rattle.survey.specs.Law.Sheet.{sheet-as-long}
 use Rattle.survey.specs.Law.Total.{total-applied, sheet-applied}
 use Rattle.survey.specs.Law.Demand3.{rows-small, demanded}
-use Rattle.survey.specs.Valid.{Valid}
+use Rattle.survey.specs.Demand3.{Demanded}
 use Rattle.survey.specs.declared.refusal.Refusal.{Refusal}
 use Rattle.survey.specs.declared.survey.Outcome.{Outcome}
 use Rattle.survey.specs.declared.playing.Played as Code
@@ -26,11 +27,11 @@ module _ (book sheet : List ℕ) where
   abbrev Promised : Answer → List ℕ → Type 0
   Promised r x = (r ≡ total book sheet) × ((x ≡ sheetAfter book sheet) × Demanded book r)
 
-  no-room : length sheet < 800 → Promised (refusedAt 16 0) sheet
+  no-room : length sheet < sheetLength → Promised (refusedAt 16 0) sheet
   unfolding total sheetAfter
   no-room h = (rw lt-ltb, (rw lt-ltb, tt))
 
-  room : {p : Played} {r : Answer} {x : List ℕ} → 800 ≤ length sheet → p ≡ play book → r ≡ answerOf p → x ≡ laidBy sheet p → Promised r x
+  room : {p : Played} {r : Answer} {x : List ℕ} → sheetLength ≤ length sheet → p ≡ play book → r ≡ answerOf p → x ≡ laidBy sheet p → Promised r x
   room {r} {x} enough is answers lays =
       let answer : r ≡ total book sheet = answers ∙ ap answerOf is ∙ rw (total-applied book sheet, le-ltb) in
       let laid : x ≡ sheetAfter book sheet = lays ∙ ap (laidBy sheet) is ∙ rw (sheet-applied book sheet, le-ltb) in

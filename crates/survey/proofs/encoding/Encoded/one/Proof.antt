@@ -6,6 +6,7 @@ use mathlib.Core.Path.{refl}
 use lib.ListN.{length}
 use lib.Seq.{take-suc-set}
 use borrow.Author.Needs.{needs}
+use Rattle.survey.specs.Encoded.{capacity}
 use Rattle.survey.proofs.encoding.Encoded.one.Statement.{statement}
 use Rattle.survey.proofs.encoding.Encoded.one.Tie as tie
 
@@ -18,7 +19,7 @@ add-e c = omega arith
 returns : tie.Need-returns
 returns c =
     let e = c .args .self in
-    let room : e .length < 25 = omega arith in
+    let room : e .length < capacity = omega arith in
     let within : e .length < length (e .bytes) = search needs in
     (rw add-one (take-suc-set (e .bytes) (e .length) (c .args .x) within), refl)
 

@@ -9,7 +9,8 @@ use Rattle.biomass.specs.Report.{Report, refused, gives, count, _then_}
 use Rattle.biomass.specs.Law.Report.{stops, follows}
 use Rattle.biomass.specs.Law.Tariff.{single-tariff-range}
 use Rattle.survey.specs.Refusal.{when}
-use Rattle.survey.specs.Line.{tariffOf, height}
+use Rattle.survey.specs.Line.{tariffOf}
+use Rattle.survey.specs.Apply.{height}
 use Rattle.survey.specs.declared.line.Line.{Line}
 use Rattle.survey.proofs.Check.{stop-when, past-when, stop-unless, past-unless, over, not-over}
 use Rattle.survey.proofs.Complement.{read-back}
@@ -69,7 +70,7 @@ sub-if2 c = small (c .before .before)
 -- past the first test
 past-limit : (p : tie.Else1) {x : Report Line} (next : ℕ → Report Line) → x ≡ next (p .before .before .before .t .given .0 .0) →
     let given = p .before .before .before .before .before .before .before .before .before .before .before .args in
-    x ≡ (tariffOf (given .self .species) (given .cm) (given .tenths) then λ T. when (leb 1000 (given .self .heights)) 11 (next T))
+    x ≡ (tariffOf (given .self .species) (given .cm) (given .tenths) then λ T. when (leb 1000 (given .self .heights .number)) 11 (next T))
 past-limit p next e = follows _ _ (gave (p .before .before)) (past-when _ _ (lt-leb _ _ (p .if1 .left)) e)
 
 returns-3 : tie.Need-returns-3
@@ -78,11 +79,11 @@ returns-3 c =
     let p = c .before .before in
     past-limit p _ (stop-unless _ (over _ _ 50000 (small (p .before .before)) (c .if2 .taken)))
 
-add-line : tie.Need-add-line
-add-line c = search needs
+add-number : tie.Need-add-number
+add-number c = search needs
 
-add-line-2 : tie.Need-add-line-2
-add-line-2 c = search needs
+add-tariffs : tie.Need-add-tariffs
+add-tariffs c = search needs
 
 returns-4 : tie.Need-returns-4
 unfolding height
@@ -103,6 +104,6 @@ height-spec =
     returns-2
     sub-if2
     returns-3
-    add-line
-    add-line-2
+    add-number
+    add-tariffs
     returns-4)

@@ -10,7 +10,7 @@ use lib.Dec.{leb, lit<, lit≤}
 use Rattle.biomass.specs.Whole.{inside}
 use Rattle.biomass.specs.Report.{Report, unless}
 use Rattle.biomass.specs.Law.Report.{Inside, refuses, goes-on, in-range}
-use Rattle.survey.specs.Line.{measured}
+use Rattle.survey.specs.Apply.{measured}
 use Rattle.survey.specs.declared.line.Line.{Line}
 use Rattle.survey.proofs.Check.{stop-unless, past-unless, over, not-over}
 use Rattle.survey.proofs.line.Line.measured.Statement.{statement}
@@ -28,7 +28,7 @@ past-operands p next e =
 
 past-limit : (p : tie.Else3) {x : Report Line} (next : Report Line) → x ≡ next →
     let given = p .before .before .before .before .before .args in
-    x ≡ unless (inside 7 (given .class) 100) 6 (unless (leb 1 (given .count)) 6 (unless (leb (given .self .n + given .count) 1000000) 11 next))
+    x ≡ unless (inside 7 (given .class) 100) 6 (unless (leb 1 (given .count)) 6 (unless (leb (given .self .tally .n + given .count) 1000000) 11 next))
 past-limit p next e = past-operands (p .before .before) _ (past-unless _ next (not-over _ _ 1000000 (count-fits (p .before .before)) (p .if3 .left)) e)
 
 -- the squares of so many trees
@@ -69,13 +69,13 @@ squares-fit : (p : tie.Else3) →
     given .count * (given .class * given .class) ≤ 10000000000
 squares-fit p = le-trans (squares p) (lit≤ tt)
 
-mul-squares : tie.Need-mul-squares
-mul-squares c =
+mul-added : tie.Need-mul-added
+mul-added c =
     let most : c .before .before .before .before .before .args .class ≤ 100 = class-range c .most in
     record { fits = lt-of-le-of-lt (mul-le-mul most most) (lit< tt) }
 
-mul-squares-2 : tie.Need-mul-squares-2
-mul-squares-2 c = record { fits = omega (arith, squares c) }
+mul-added-2 : tie.Need-mul-added-2
+mul-added-2 c = record { fits = omega (arith, squares c) }
 
 sub-if4 : tie.Need-sub-if4
 sub-if4 c = omega (arith, squares c)
@@ -84,11 +84,11 @@ returns-4 : tie.Need-returns-4
 unfolding measured
 returns-4 c = past-limit (c .before .before) _ (stop-unless _ (over _ _ 10000000000 (squares-fit (c .before .before)) (c .if4 .taken)))
 
-add-line : tie.Need-add-line
-add-line c = search needs
+add-n : tie.Need-add-n
+add-n c = search needs
 
-add-line-2 : tie.Need-add-line-2
-add-line-2 c =
+add-squares : tie.Need-add-squares
+add-squares c =
     let p = c .before .before in
     record { fits = omega (arith, squares (p .before .before), p .if4 .left) }
 
@@ -107,10 +107,10 @@ measured-spec =
     returns-2
     sub-if3
     returns-3
-    mul-squares
-    mul-squares-2
+    mul-added
+    mul-added-2
     sub-if4
     returns-4
-    add-line
-    add-line-2
+    add-n
+    add-squares
     returns-5)

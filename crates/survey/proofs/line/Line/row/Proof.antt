@@ -16,7 +16,8 @@ use Rattle.biomass.specs.Law.Report.{stops, follows}
 use Rattle.biomass.specs.Law.Mean.{mean-gives}
 use Rattle.biomass.specs.Law.Tariff.{line-tariff-range}
 use Rattle.survey.specs.Refusal.{when}
-use Rattle.survey.specs.Line.{emptyRow, factorAt, lineRow}
+use Rattle.survey.specs.Line.{factorAt, emptyRow}
+use Rattle.survey.specs.Apply.{lineRow}
 use Rattle.survey.specs.declared.row.Row.{Row}
 use Rattle.survey.specs.declared.line.Line.{Line}
 use Rattle.survey.proofs.Check.{stop-when, past-when, stop-unless, past-unless}
@@ -26,24 +27,24 @@ use Rattle.survey.proofs.line.Line.row.Tie as tie
 -- ---- the definition down to the height trees, to the factor and to the number of trees
 
 abbrev to-heights : Line → Report Row → Report Row
-to-heights l next = cond (eqb (l .n) 0) (gives (emptyRow l)) (when (eqb (l .heights) 0) 12 next)
+to-heights l next = cond (eqb (l .tally .n) 0) (gives (emptyRow l)) (when (eqb (l .heights .number) 0) 12 next)
 
 abbrev to-factor : List ℕ → Line → (ℕ → Report Row) → Report Row
-to-factor factors l next = to-heights l (mean (l .n) (l .squares) then λ d. when (eqb (factorAt factors (d / 10)) 0) 14 (next d))
+to-factor factors l next = to-heights l (mean (l .tally .n) (l .tally .squares) then λ d. when (eqb (factorAt factors (d / 10)) 0) 14 (next d))
 
 abbrev to-number : List ℕ → Line → (ℕ → ℕ → Report Row) → Report Row
-to-number factors l next = to-factor factors l (λ d. trees (l .n) (l .p) (l .q) then λ N. unless (leb N 100000000) 15 (next d N))
+to-number factors l next = to-factor factors l (λ d. trees (l .tally .n) (l .p) (l .q) then λ N. unless (leb N 100000000) 15 (next d N))
 
 -- ---- where these checks are passed, the report is what follows
 
 abbrev at-heights : tie.Else2 → tie.Start
 at-heights p = p .before .before .before .before
 
-no-trees : (l : Line) (next : Report Row) → l .n ≡ 0 → gives (emptyRow l) ≡ cond (eqb (l .n) 0) (gives (emptyRow l)) next
-no-trees l next e = ap (λ (b : Bool). cond b (gives (emptyRow l)) next) (sym (eq-eqb (l .n) 0 e))
+no-trees : (l : Line) (next : Report Row) → l .tally .n ≡ 0 → gives (emptyRow l) ≡ cond (eqb (l .tally .n) 0) (gives (emptyRow l)) next
+no-trees l next e = ap (λ (b : Bool). cond b (gives (emptyRow l)) next) (sym (eq-eqb (l .tally .n) 0 e))
 
 past-n : (p : tie.Else1) {x : Report Row} (next : Report Row) → x ≡ next →
-    x ≡ cond (eqb (p .before .before .args .self .n) 0) (gives (emptyRow (p .before .before .args .self))) next
+    x ≡ cond (eqb (p .before .before .args .self .tally .n) 0) (gives (emptyRow (p .before .before .args .self))) next
 past-n p next e = e ∙ ap (λ (b : Bool). cond b (gives (emptyRow (p .before .before .args .self))) next) (sym (ne-eqb _ 0 (p .if1 .left)))
 
 past-heights : (p : tie.Else2) {x : Report Row} (next : Report Row) → x ≡ next → x ≡ to-heights (at-heights p .args .self) next
@@ -53,11 +54,11 @@ past-heights p next e = past-n (p .before .before) _ (past-when 12 next (ne-eqb 
 abbrev at-mean : tie.After-known-told → tie.Start
 at-mean p = at-heights (p .before .before .before .before)
 
-gave-mean : (p : tie.After-known-told) → mean (at-mean p .args .self .n) (at-mean p .args .self .squares) ≡ gives (p .before .d .given .0 .0)
+gave-mean : (p : tie.After-known-told) → mean (at-mean p .args .self .tally .n) (at-mean p .args .self .tally .squares) ≡ gives (p .before .d .given .0 .0)
 gave-mean p = sym (p .before .before .before .mean .ensures) ∙ ap count (p .before .d .given .1)
 
 past-mean : (p : tie.After-known-told) {x : Report Row} (next : ℕ → Report Row) → x ≡ next (p .before .d .given .0 .0) →
-    x ≡ to-heights (at-mean p .args .self) (mean (at-mean p .args .self .n) (at-mean p .args .self .squares) then next)
+    x ≡ to-heights (at-mean p .args .self) (mean (at-mean p .args .self .tally .n) (at-mean p .args .self .tally .squares) then next)
 past-mean p next e = past-heights (p .before .before .before .before) _ (follows _ next (gave-mean p) e)
 
 past-factor : (p : tie.Else3) {x : Report Row} (next : ℕ → Report Row) → x ≡ next (p .before .before .d .given .0 .0) →
@@ -71,7 +72,7 @@ at-trees p = p .before .before .before .before .before .before
 
 gave-trees : (p : tie.After-known-told3) →
     let l = at-mean (at-trees p .before) .args .self in
-    trees (l .n) (l .p) (l .q) ≡ gives (p .before .n .given .0 .0)
+    trees (l .tally .n) (l .p) (l .q) ≡ gives (p .before .n .given .0 .0)
 gave-trees p = sym (p .before .before .before .trees .ensures) ∙ ap count (p .before .n .given .1)
 
 past-number : (p : tie.Else4) {x : Report Row} (next : ℕ → ℕ → Report Row) →
@@ -176,7 +177,7 @@ returns-7 c =
 -- the tariff that is given
 gave-tariff : (p : tie.After-known-told5) →
     let l = at-mean (at-trees (p .before .before .before .before .before) .before) .args .self in
-    lineTariff (l .tariffs) (l .heights) ≡ gives (p .before .t .given .0 .0)
+    lineTariff (l .heights .tariffs) (l .heights .number) ≡ gives (p .before .t .given .0 .0)
 gave-tariff p = sym (p .before .before .before .line-tariff .ensures) ∙ ap count (p .before .t .given .1)
 
 worked-requires : tie.Need-worked-requires

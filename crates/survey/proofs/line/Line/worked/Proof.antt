@@ -4,7 +4,7 @@ use mathlib.Core.Path.{_∙_, refl, sym, ap}
 use borrow.Author.Needs.{needs}
 use Rattle.biomass.specs.Report.{refused, biomass}
 use Rattle.biomass.specs.Law.Report.{stops, follows}
-use Rattle.survey.specs.Line.{worked}
+use Rattle.survey.specs.Apply.{worked}
 use Rattle.survey.proofs.line.Line.worked.Statement.{statement}
 use Rattle.survey.proofs.line.Line.worked.Tie as tie
 

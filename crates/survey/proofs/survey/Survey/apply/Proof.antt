@@ -1,6 +1,7 @@
 -- `survey::survey::Survey::apply` meets its contract, by cases on the command.
 use mathlib.Core.Path.{_≡_, _∙_, sym, ap}
-use Rattle.survey.specs.Survey.{leaves, apply}
+use Rattle.survey.specs.Survey.{leaves}
+use Rattle.survey.specs.Apply.{apply}
 use Rattle.survey.specs.declared.command.Command.{Command}
 use Rattle.survey.specs.declared.survey.Survey.{Survey}
 use Rattle.survey.proofs.survey.Survey.apply.Statement.{statement}

@@ -1,8 +1,8 @@
 -- `survey::survey::Survey::close` meets its contract: its two tests are the definition's, and then the line's row decides.
 use mathlib.Core.Path.{_∙_, refl, sym, ap}
 use Rattle.biomass.specs.Law.Report.{stops, follows}
-use Rattle.survey.specs.Line.{rowed}
-use Rattle.survey.specs.Survey.{leaves, close}
+use Rattle.survey.specs.Survey.{leaves}
+use Rattle.survey.specs.Apply.{rowed, applyClose}
 use Rattle.survey.proofs.Check.{stop-when, no-line, on-line}
 use Rattle.survey.proofs.survey.Survey.close.Statement.{statement}
 use Rattle.survey.proofs.survey.Survey.close.Tie as tie
@@ -11,14 +11,14 @@ refuse-requires : tie.Need-refuse-requires
 refuse-requires c κs = tt
 
 returns : tie.Need-returns
-unfolding close
+unfolding applyClose
 returns c = c .refuse .ensures ∙ ap (leaves _) (stop-when _ (c .before .if1 .taken))
 
 refuse-requires-2 : tie.Need-refuse-requires-2
 refuse-requires-2 c κs = tt
 
 returns-2 : tie.Need-returns-2
-unfolding close
+unfolding applyClose
 returns-2 c =
     let p = c .before in
     c .refuse2 .ensures ∙ ap (leaves _) (no-line (p .before .before .before .args .self) _ (p .before .before .if1 .left) (p .if2 .taken))
@@ -39,7 +39,7 @@ refuse-requires-3 : tie.Need-refuse-requires-3
 refuse-requires-3 c κs = tt
 
 returns-3 : tie.Need-returns-3
-unfolding close
+unfolding applyClose
 returns-3 c =
     let known = c .before .before in
     let worked = known .before .before in
@@ -49,7 +49,7 @@ returns-3 c =
     c .keep .ensures ∙ ap (leaves s) (on-line s _ (p .before .before .if1 .left) (p .if2 .left) (follows _ _ row refl))
 
 returns-4 : tie.Need-returns-4
-unfolding close
+unfolding applyClose
 returns-4 c =
     let known = c .before .before in
     let worked = known .before .before in

@@ -6,7 +6,7 @@ use native.Mathlib.Omega.{arith}
 use native.Mathlib.Numerals.{add-one}
 use lib.ListN.{length, getD, take, drop, length-take, length-map, drop-of-length-le}
 use lib.Seq.{drop-cons, getD-take}
-use Rattle.survey.specs.Survey.{isLine, anyLine, opened}
+use Rattle.survey.specs.Survey.{mostLines, isLine, anyLine, opened}
 use Rattle.survey.specs.declared.row.Row.{Row}
 use Rattle.survey.specs.declared.survey.Survey.{Survey}
 use Rattle.survey.proofs.survey.Survey.has_row.Statement.{statement}
@@ -17,10 +17,10 @@ abbrev rest : ℕ → ℕ → Survey → ℕ → Bool
 rest stratum id s k = anyLine stratum id (drop k (take (s .closed) (s .rows)))
 
 abbrev Inv-loop : tie.InvT-loop
-Inv-loop stratum id self i₀ i = (i ≤ 32) × (rest stratum id self i ≡ opened stratum id self)
+Inv-loop stratum id self i₀ i = (i ≤ mostLines) × (rest stratum id self i ≡ opened stratum id self)
 
 abbrev μ-loop : tie.MeasureT-loop
-μ-loop stratum id self i₀ i = 32 - i
+μ-loop stratum id self i₀ i = mostLines - i
 
 module _ (stratum id : ℕ) (s : Survey) (i : ℕ) where
   -- past the last closed row, or the last row, there is none
@@ -34,7 +34,7 @@ module _ (stratum id : ℕ) (s : Survey) (i : ℕ) where
       rw (add-one, drop-cons (take (s .closed) (s .rows)) i z, getD-take (s .closed) (s .rows) i z)
 
 -- the survey has 32 rows
-all : (p : tie.Start Inv-loop μ-loop) → length (p .args .t1 .rows) ≡ 32
+all : (p : tie.Start Inv-loop μ-loop) → length (p .args .t1 .rows) ≡ mostLines
 all p = sym (length-map (p .args .t1 .rows) _) ∙ p .good .0 .1 .1 .1 .1 .0 .1 .0 .1
 
 loop-holds : tie.Need-loop-holds Inv-loop μ-loop

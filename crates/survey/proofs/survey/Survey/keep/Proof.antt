@@ -2,7 +2,8 @@
 use mathlib.Core.Path.{_∙_, ap}
 use borrow.Author.Tests.{le-leb, lt-leb}
 use Rattle.biomass.specs.Report.{gives}
-use Rattle.survey.specs.Survey.{leaves, kept}
+use Rattle.survey.specs.Survey.{leaves}
+use Rattle.survey.specs.Apply.{kept}
 use Rattle.survey.proofs.Check.{stop-when, past-when}
 use Rattle.survey.proofs.survey.Survey.keep.Statement.{statement}
 use Rattle.survey.proofs.survey.Survey.keep.Tie as tie

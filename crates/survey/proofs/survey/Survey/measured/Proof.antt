@@ -1,7 +1,8 @@
 -- `survey::survey::Survey::measured` meets its contract: its two tests are the definition's, and then the line's answer decides.
 use mathlib.Core.Path.{_∙_, ap}
 use Rattle.biomass.specs.Report.{Report, gives, _then_}
-use Rattle.survey.specs.Survey.{leaves, withLine, measure}
+use Rattle.survey.specs.Survey.{leaves, withLine}
+use Rattle.survey.specs.Apply.{applyMeasured}
 use Rattle.survey.specs.declared.line.Line.{Line}
 use Rattle.survey.proofs.Check.{stop-when, no-line, on-line}
 use Rattle.survey.proofs.survey.Survey.measured.Statement.{statement}
@@ -11,14 +12,14 @@ refuse-requires : tie.Need-refuse-requires
 refuse-requires c κs = tt
 
 returns : tie.Need-returns
-unfolding measure
+unfolding applyMeasured
 returns c = c .refuse .ensures ∙ ap (leaves _) (stop-when _ (c .before .if1 .taken))
 
 refuse-requires-2 : tie.Need-refuse-requires-2
 refuse-requires-2 c κs = tt
 
 returns-2 : tie.Need-returns-2
-unfolding measure
+unfolding applyMeasured
 returns-2 c =
     let p = c .before in
     c .refuse2 .ensures ∙ ap (leaves _) (no-line (p .before .before .before .args .self) _ (p .before .before .if1 .left) (p .if2 .taken))
@@ -30,7 +31,7 @@ note-requires : tie.Need-note-requires
 note-requires c κs = tt
 
 returns-3 : tie.Need-returns-3
-unfolding measure
+unfolding applyMeasured
 returns-3 c =
     let p = c .before .before .before in
     let s = p .before .before .before .args .self in

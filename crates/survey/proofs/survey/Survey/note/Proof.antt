@@ -2,8 +2,8 @@
 use mathlib.Core.Path.{_∙_, ap}
 use Rattle.biomass.specs.Report.{gives}
 use Rattle.biomass.specs.Law.Report.{stops, follows}
-use Rattle.survey.specs.Line.{noted}
 use Rattle.survey.specs.Survey.{leaves}
+use Rattle.survey.specs.Apply.{noted}
 use Rattle.survey.proofs.survey.Survey.note.Statement.{statement}
 use Rattle.survey.proofs.survey.Survey.note.Tie as tie
 

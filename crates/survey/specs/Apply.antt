@@ -1,0 +1,108 @@
+-- What the code does of any survey at all, also of one that no book reaches: document 01's text (Survey), and besides a check wherever a number could
+-- otherwise be outside what the next figure is worked from. Of a valid survey, and so of every one that a book reaches, applying is the text (Law.AsWritten:
+-- as-written), and every book comes to what it comes to by the text (Law.Playing: play-as-written). No promise about a whole book is stated over this.
+use Prim.Native.Nat.{ℕ, _+_, _*_}
+use mathlib.Core.Bool.{cond}
+use mathlib.Core.List.{List, [], _∷_}
+use lib.Dec.{leb, eqb}
+use Rattle.biomass.specs.Whole.{inside}
+use Rattle.biomass.specs.Report.{Report, refused, gives, unless, _then_}
+use Rattle.biomass.specs.Tariff.{lineTariff}
+use Rattle.biomass.specs.Mean.{mean}
+use Rattle.biomass.specs.Trees.{trees}
+use Rattle.biomass.specs.Tree.{row}
+use Rattle.survey.specs.Refusal.{number, when}
+use Rattle.survey.specs.Line.{withTrees, withHeight, tariffOf, factorFor, treeWith, rowWith, emptyRow}
+use Rattle.survey.specs.Survey.{leaves, mostLines, withLine, withRow, declare, giveFactor, openLine, finish}
+use Rattle.survey.specs.declared.command.Command.{Command}
+use Rattle.survey.specs.declared.row.Row.{Row}
+use Rattle.survey.specs.declared.line.Line.{Line}
+use Rattle.survey.specs.declared.line.Noted.{Noted}
+use Rattle.survey.specs.declared.line.Closed.{Closed}
+use Rattle.survey.specs.declared.survey.Survey.{Survey}
+
+-- what the code answers
+abbrev pub noted : Noted → Report Line
+noted (Noted.Is l) = gives l
+noted (Noted.Refused why) = refused (number why)
+
+abbrev pub rowed : Closed → Report Row
+rowed (Closed.Is r) = gives r
+rowed (Closed.Refused why) = refused (number why)
+
+-- ---- a line
+
+-- measured trees; the last check declines a line whose S is above what 1,000,000 trees can have
+unfoldable pub measured : ℕ → ℕ → Line → Report Line
+measured class count l =
+    unless (inside 7 class 100) 6
+    (unless (leb 1 count) 6
+    (unless (leb (l .tally .n + count) 1000000) 11
+    (unless (leb (l .tally .squares + count * (class * class)) 10000000000) 6
+    (gives (withTrees class count l)))))
+
+-- a height tree; the last check declines a line whose tariffs come to more than 1,000 trees can have
+unfoldable pub height : ℕ → ℕ → Line → Report Line
+height cm tenths l =
+    tariffOf (l .species) cm tenths then λ T.
+    when (leb 1000 (l .heights .number)) 11
+    (unless (leb (l .heights .tariffs + T) 50000) 6
+    (gives (withHeight T l)))
+
+-- the row by steps 4 to 7; what they decline (6), closing declines
+unfoldable pub worked : Line → ℕ → ℕ → ℕ → ℕ → Report Row
+worked l T d f N = row N (treeWith (l .species) T d f) then λ m. gives (rowWith l T d N m)
+
+-- closing: d, N and T are worked by steps 2, 3 and 1, and what one of them declines (6), closing declines
+unfoldable pub lineRow : List ℕ → Line → Report Row
+lineRow factors l =
+    cond (eqb (l .tally .n) 0) (gives (emptyRow l))
+    (when (eqb (l .heights .number) 0) 12
+    (mean (l .tally .n) (l .tally .squares) then λ d.
+    when (eqb (factorFor factors d) 0) 14
+    (trees (l .tally .n) (l .p) (l .q) then λ N.
+    unless (leb N 100000000) 15
+    (lineTariff (l .heights .tariffs) (l .heights .number) then λ T.
+    worked l T d (factorFor factors d) N))))
+
+-- ---- a survey
+
+unfoldable pub applyMeasured : ℕ → ℕ → Survey → Report Survey
+applyMeasured class count s =
+    when (s .ended) 5
+    (unless (s .active) 10
+    (measured class count (s .line) then λ l.
+    gives (withLine s l)))
+
+unfoldable pub applyHeight : ℕ → ℕ → Survey → Report Survey
+applyHeight cm tenths s =
+    when (s .ended) 5
+    (unless (s .active) 10
+    (height cm tenths (s .line) then λ l.
+    gives (withLine s l)))
+
+-- the check declines a survey with a line open and 32 closed
+unfoldable pub kept : Row → Survey → Report Survey
+kept r s = when (leb mostLines (s .closed)) 11 (gives (withRow s r))
+
+unfoldable pub applyClose : Survey → Report Survey
+applyClose s =
+    when (s .ended) 5
+    (unless (s .active) 10
+    (lineRow (s .factors) (s .line) then λ r.
+    kept r s))
+
+-- the other commands have no check besides
+abbrev pub apply : Command → Survey → Report Survey
+apply (Command.Species id species) s = declare id species s
+apply (Command.Factor cm factor) s = giveFactor cm factor s
+apply (Command.Open stratum species p q) s = openLine stratum species p q s
+apply (Command.Measured class count) s = applyMeasured class count s
+apply (Command.Height cm tenths) s = applyHeight cm tenths s
+apply Command.Close s = applyClose s
+apply Command.End s = finish s
+
+-- the survey after a list of commands: a refused one leaves it as it was
+unfoldable pub reached : List Command → Survey → Survey
+reached [] s = s
+reached (c ∷ cs) s = reached cs (leaves s (apply c s) .survey)
