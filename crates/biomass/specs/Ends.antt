@@ -5,6 +5,7 @@ use mathlib.Core.List.{List, []}
 use lib.ListN.{getD}
 use lib.IntN.{ℤ, pos, _+ℤ_, _*ℤ_, natAbs}
 use Rattle.biomass.specs.Whole.{_div_}
+use Rattle.biomass.specs.Units.{unitsToCm}
 use Rattle.biomass.specs.declared.units.BiomassRange.{BiomassRange}
 
 pub record Ends : Type 0 where
@@ -28,5 +29,5 @@ curve k p m = record { low = (k *ℤ pos p) div m; high = (k *ℤ pos (p + 1)) d
 -- A straight line: "low = (10a + b·d) div 10, high = low + 1"
 abbrev pub straight : ℤ → ℤ → ℕ → Ends
 straight a b d =
-    let low = (pos 10 *ℤ a +ℤ b *ℤ pos d) div 10 in
+    let low = (pos unitsToCm *ℤ a +ℤ b *ℤ pos d) div unitsToCm in
     record { low = low; high = low +ℤ pos 1 }

@@ -5,7 +5,7 @@
 --     Exact: tree-ordered                     the exact tree with fractions not above the powers is not above the one with fractions not below them
 --     Power: w-not-above, next-w-not-below    and there are such fractions: w units of 10^-5 and w + 1 of them; of y too
 --     Tree: row-bounds, tree-bounds           how far apart the ends are, and how great they can be; the parts' are stem-bounded, crown-bounded, root-bounded
---     Mean: mean-gives, mean-is, mean-only    a mean that is given is step 2's d, the only one, and 70 to 1000
+--     Mean: mean-gives, mean-is, mean-only    a mean that is given is step 2's d, the only one, and in d's range
 --     Tariff: single-tariff-range, line-tariff-range      a tariff that is given is 1 to 50
 --     Answers                                 operands in their ranges are answered, and with what
 --     Declines                                a figure is declined with 6 alone, and a single tariff with 6 or 13

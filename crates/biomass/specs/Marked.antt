@@ -14,7 +14,7 @@ use Rattle.biomass.specs.Ends.{between}
 use Rattle.biomass.specs.Crown.{crown, crownEnds}
 use Rattle.biomass.specs.Root.{root, rootEnds}
 use Rattle.biomass.specs.declared.units.BiomassRange.{BiomassRange}
-use Rattle.biomass.specs.Law.Power.{y-is}
+use Rattle.biomass.specs.Law.Power.{y-is, greatestY}
 use Rattle.biomass.specs.Law.Mean.{mean-between}
 
 -- the last group of the roots, and the last of the crowns
@@ -69,7 +69,7 @@ marked-hold = (
             (
               rw (y-is 100 31622776 (lit≤ tt) (lit< tt)),
               (
-                rw (y-is 300 492950301 (lit≤ tt) (lit< tt)),
+                rw (y-is 300 greatestY (lit≤ tt) (lit< tt)),
                 (refl, refl),
               ),
             ),

@@ -5,8 +5,9 @@ use mathlib.Core.List.{List, [], _∷_}
 use lib.Dec.{leb}
 use lib.IntN.{ℤ, pos, negℤ}
 use Rattle.biomass.specs.Whole.{inside, wholeRoot}
-use Rattle.biomass.specs.Mean.{dInRange}
 use Rattle.biomass.specs.Report.{Report, gives, unless}
+use Rattle.biomass.specs.Units.{rootLimit}
+use Rattle.biomass.specs.Mean.{dInRange}
 use Rattle.biomass.specs.Ends.{Ends, range, entry, curve, straight}
 use Rattle.biomass.specs.declared.units.BiomassRange.{BiomassRange}
 
@@ -36,13 +37,17 @@ lineA g = entry rootTable g 1
 abbrev pub lineB : ℕ → ℤ
 lineB g = entry rootTable g 2
 
+-- The root power is the diameter in cm to the power 5/2. y counts units of 10^-5 of it: in y² they come to 10^10, of which d's unit takes 10^5
+abbrev pub rootShift : ℕ
+rootShift = 5
+
 -- "y is the greatest with y² ≤ 10^5·d^5"
 unfoldable pub y : ℕ → ℕ
-y d = wholeRoot 2 (10 ^ 5 * d ^ 5)
+y d = wholeRoot 2 (10 ^ rootShift * d ^ 5)
 
 -- "For d ≤ 300, .. low = b·y div 10^5, high = b·(y+1) div 10^5 + 1."
 unfoldable pub rootEnds : ℕ → ℕ → Ends
-rootEnds g d = cond (leb d 300) (curve (curveB g) (y d) (10 ^ 5)) (straight (lineA g) (lineB g) d)
+rootEnds g d = cond (leb d rootLimit) (curve (curveB g) (y d) (10 ^ 5)) (straight (lineA g) (lineB g) d)
 
 unfoldable pub root : ℕ → ℕ → Report BiomassRange
 root g d =

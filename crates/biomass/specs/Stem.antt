@@ -4,14 +4,18 @@ use mathlib.Core.Bool.{cond}
 use lib.IntN.{ℤ, pos, _+ℤ_, _-ℤ_, _*ℤ_}
 use lib.Signed.{leZ}
 use Rattle.biomass.specs.Whole.{_div_, inside, square}
-use Rattle.biomass.specs.Mean.{dInRange}
 use Rattle.biomass.specs.Report.{Report, gives, unless}
+use Rattle.biomass.specs.Mean.{dInRange}
 use Rattle.biomass.specs.Ends.{Ends, range}
 use Rattle.biomass.specs.declared.units.BiomassRange.{BiomassRange}
 
+-- "div 400000": pi is in units of 10^-8, d of 10^-3 m, and the area, a quarter of pi·d², of 10^-9 m²
+abbrev pub areaScale : ℕ
+areaScale = 400000
+
 -- "G = 314159265·d² div 400000."
 abbrev pub G : ℕ → ℕ
-G d = 314159265 * square d / 400000
+G d = 314159265 * square d / areaScale
 
 -- "A = 315049301·(10^9·T − 138763302) div 10^10."
 abbrev pub A : ℕ → ℤ

@@ -3,6 +3,7 @@ use Prim.Native.Nat.{ℕ, _*_, _/_}
 use lib.IntN.{ℤ, pos, negsuc, _+ℤ_, _*ℤ_}
 use Rattle.biomass.specs.Whole.{_div_, inside}
 use Rattle.biomass.specs.Report.{Report, refused, gives, unless}
+use Rattle.biomass.specs.Limits.{mostHeights}
 
 -- "Single tariff (Equation 2): (10·c1 + c2·h + 10·c3·D + c4·D·h + 50,000,000) div 100,000,000, with D in cm and h in tenths of a metre."
 abbrev pub tariffSum : ℤ → ℤ → ℤ → ℤ → ℕ → ℕ → ℤ
@@ -24,6 +25,6 @@ singleTariff c1 c2 c3 c4 D h =
 -- "Line tariff T: sum of single tariffs div their number." There are at most 1,000 of them, each 1 to 50
 unfoldable pub lineTariff : ℕ → ℕ → Report ℕ
 lineTariff sum number =
-    unless (inside 1 number 1000) 6
+    unless (inside 1 number mostHeights) 6
     (unless (inside number sum (50 * number)) 6
     (gives (sum / number)))

@@ -4,6 +4,7 @@ use mathlib.Core.Bool.{cond}
 use lib.Dec.{eqb}
 use Rattle.biomass.specs.Whole.{inside}
 use Rattle.biomass.specs.Report.{Report, gives, unless, _then_}
+use Rattle.biomass.specs.Limits.{mostEstimated}
 use Rattle.biomass.specs.Ends.{between, range}
 use Rattle.biomass.specs.Stem.{stemEnds, stem}
 use Rattle.biomass.specs.Crown.{crownEnds, crown}
@@ -32,10 +33,17 @@ tree t =
     root (t .root) (t .d) then λ r.
     gives (added s c r)
 
--- "Row low = N·mL div 100; row high = N·mH div 100 + 1, or 0 when N = 0."
-abbrev pub rowOf : ℕ → BiomassRange → BiomassRange
-rowOf N m = between (N * m .low .0 / 100) (cond (eqb N 0) 0 (N * m .high .0 / 100 + 1))
+-- "Row low = N·mL div 100"
+abbrev pub rowLow : ℕ → BiomassRange → ℕ
+rowLow N m = N * m .low .0 / 100
 
--- "1,000,000 estimated trees a line", in hundredths
+-- "row high = N·mH div 100 + 1, or 0 when N = 0."
+abbrev pub rowHigh : ℕ → BiomassRange → ℕ
+rowHigh N m = cond (eqb N 0) 0 (N * m .high .0 / 100 + 1)
+
+abbrev pub rowOf : ℕ → BiomassRange → BiomassRange
+rowOf N m = between (rowLow N m) (rowHigh N m)
+
+-- "1,000,000 estimated trees a line"
 unfoldable pub row : ℕ → AverageTree → Report BiomassRange
-row N t = unless (inside 0 N 100000000) 6 (tree t then λ m. gives (rowOf N m))
+row N t = unless (inside 0 N mostEstimated) 6 (tree t then λ m. gives (rowOf N m))

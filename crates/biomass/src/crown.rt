@@ -4,6 +4,7 @@ use super::answer::Refusal;
 use super::part::on_curve;
 use super::part::on_line;
 use super::units::BiomassRange;
+use super::units::CROWN_LIMIT;
 use super::units::GREATEST_D;
 use super::units::LEAST_D;
 use super::whole::within;
@@ -12,8 +13,9 @@ ghost use Prim.Native.Nat.{_≤_};
 ghost use mathlib.Core.List.{[]};
 ghost use lib.ListN.{getD};
 ghost use Rattle.biomass.specs.Report.{biomass};
-ghost use Rattle.biomass.specs.Ends.{range};
+ghost use Rattle.biomass.specs.Units.{leastD, greatestD, crownLimit};
 ghost use Rattle.biomass.specs.Law.Report.{Inside};
+ghost use Rattle.biomass.specs.Ends.{range};
 ghost use Rattle.biomass.specs.Crown.{crown, crownTable, crownEnds, w};
 
 // Larches, Corsican pine, lodgepole pine, Scots pine, firs and spruces and cedars and hemlocks, Douglas fir, beech, oak.
@@ -29,8 +31,11 @@ const CROWN: [[i64; 3]; 8] = [
     [168_513, -411_550_464, 13_669_801],
 ];
 
-// w for each d from 70 to 500: the diameter in cm to the power 2.4767, in units of 10^-5, cut off to a whole number.
-const POWER: [u64; 431] = [
+// The number of diameters on the curve.
+const POWERS: usize = (CROWN_LIMIT - LEAST_D + 1) as usize;
+
+// w for each of them: the diameter in cm to the power 2.4767, in units of 10^-5, cut off to a whole number.
+const POWER: [u64; POWERS] = [
     12_389_515,
     12_832_508,
     13_284_811,
@@ -466,10 +471,10 @@ const POWER: [u64; 431] = [
 
 // The whole units of the crown power at d.
 fn crown_power(d: u64) -> u64
-    requires { ⌜ (70 ≤ d) × (d ≤ 500) ⌝ }
+    requires { ⌜ (leastD ≤ d) × (d ≤ crownLimit) ⌝ }
     ensures { λ r. ⌜ r ≡ w d ⌝ }
 {
-    let at = (d - 70) as usize;
+    let at = (d - LEAST_D) as usize;
     POWER[at]
 }
 
@@ -484,17 +489,17 @@ fn crown_row(group: u64) -> [i64; 3]
 
 // The crown's biomass where the operands are in their ranges.
 fn crown_in_range(group: u64, d: u64) -> BiomassRange
-    requires { ⌜ Inside 0 group 7 × Inside 70 d 1000 ⌝ }
+    requires { ⌜ Inside 0 group 7 × Inside leastD d greatestD ⌝ }
     ensures { λ r. ⌜ r ≡ range (crownEnds group d) ⌝ }
 {
     let row = crown_row(group);
-    if d <= 500 {
+    if d <= CROWN_LIMIT {
         return on_curve(row[0] as u64, crown_power(d), 1_000_000);
     }
     on_line(row[1], row[2], d)
 }
 
-// The biomass of the crown of a tree of the mean diameter d, in tenths of a cm.
+// The biomass of the crown of a tree of the mean diameter d, UNITS_TO_CM to the cm.
 pub fn crown(group: u64, d: u64) -> Biomass
     ensures { λ r. ⌜ biomass r ≡ crown group d ⌝ }
 {

@@ -3,6 +3,7 @@
 // arguments at all, and promises an equation over a definition of specs/.
 pub mod answer;
 pub mod crown;
+pub mod limits;
 pub mod mean;
 mod part;
 pub mod project;

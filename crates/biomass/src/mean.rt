@@ -1,18 +1,23 @@
 // Step 2: the mean diameter.
 use super::answer::Count;
 use super::answer::Refusal;
+use super::limits::MOST_MEASURED;
 use super::units::GREATEST_D;
 use super::units::LEAST_D;
 use super::whole::within;
 ghost use mathlib.Core.Path.{_≡_};
 ghost use Prim.Native.Nat.{_*_};
 ghost use Rattle.biomass.specs.Report.{count};
+ghost use Rattle.biomass.specs.Limits.{mostMeasured};
 ghost use Rattle.biomass.specs.Mean.{mean, meanOf};
 ghost use Rattle.biomass.specs.Law.Report.{Inside};
 
+// Squares of half a unit of d to the square cm.
+const SQUARE_SCALE: u64 = 400;
+
 // The mean itself: the interval of diameters that holds it is halved until one is left.
 fn mean_of(n: u64, squares: u64) -> u64
-    requires { ⌜ Inside 1 n 1000000 × Inside (49 * n) squares (10000 * n) ⌝ }
+    requires { ⌜ Inside 1 n mostMeasured × Inside (49 * n) squares (10000 * n) ⌝ }
     ensures { λ r. ⌜ r ≡ meanOf n squares ⌝ }
 {
     let mut low = LEAST_D;
@@ -20,7 +25,7 @@ fn mean_of(n: u64, squares: u64) -> u64
     while 1 < above - low {
         let middle = low + (above - low) / 2;
         let side = 2 * middle - 1;
-        if side * side * n <= 400 * squares {
+        if side * side * n <= SQUARE_SCALE * squares {
             low = middle;
         } else {
             above = middle;
@@ -29,11 +34,11 @@ fn mean_of(n: u64, squares: u64) -> u64
     low
 }
 
-// The mean diameter in tenths of a cm of n trees whose classes in cm, squared, add up to `squares`.
+// The mean diameter d, UNITS_TO_CM to the cm, of n trees whose classes in cm, squared, add up to `squares`.
 pub fn mean(n: u64, squares: u64) -> Count
     ensures { λ r. ⌜ count r ≡ mean n squares ⌝ }
 {
-    if !within(1, n, 1_000_000) {
+    if !within(1, n, MOST_MEASURED) {
         return Count::Refused(Refusal::Operand);
     }
     if !within(49 * n, squares, 10_000 * n) {

@@ -1,6 +1,7 @@
 // The two forms that a crown and a root take: a coefficient times a power of the diameter, and above a certain diameter a straight line.
 use super::units::BiomassRange;
 use super::units::Milligrams;
+use super::units::UNITS_TO_CM;
 ghost use mathlib.Core.Path.{_≡_};
 ghost use Prim.Native.Nat.{_<_, _^_};
 ghost use lib.IntN.{pos};
@@ -23,8 +24,8 @@ pub(crate) fn on_line(start: i64, rise: i64, d: u64) -> BiomassRange
     requires { ⌜ Rising start rise d ⌝ }
     ensures { λ r. ⌜ r ≡ range (straight start rise d) ⌝ }
 {
-    let tenths = 10 * start + rise * (d as i64);
-    let low = tenths as u64 / 10;
+    let risen = (UNITS_TO_CM as i64) * start + rise * (d as i64);
+    let low = risen as u64 / UNITS_TO_CM;
     BiomassRange {
         low: Milligrams(low),
         high: Milligrams(low + 1),

@@ -6,6 +6,7 @@ use super::part::on_line;
 use super::units::BiomassRange;
 use super::units::GREATEST_D;
 use super::units::LEAST_D;
+use super::units::ROOT_LIMIT;
 use super::whole::square_root;
 use super::whole::within;
 ghost use mathlib.Core.Path.{_≡_};
@@ -13,8 +14,9 @@ ghost use Prim.Native.Nat.{_≤_};
 ghost use mathlib.Core.List.{[]};
 ghost use lib.ListN.{getD};
 ghost use Rattle.biomass.specs.Report.{biomass};
-ghost use Rattle.biomass.specs.Ends.{range};
+ghost use Rattle.biomass.specs.Units.{leastD, greatestD, rootLimit};
 ghost use Rattle.biomass.specs.Law.Report.{Inside};
+ghost use Rattle.biomass.specs.Ends.{range};
 ghost use Rattle.biomass.specs.Root.{root, rootTable, rootEnds, y};
 
 // Western red cedar and noble fir and Corsican pine, Norway spruce, grand fir and Scots pine and western hemlock,
@@ -31,7 +33,7 @@ const ROOT: [[i64; 3]; 6] = [
 
 // The whole units of the root power at d.
 fn root_power(d: u64) -> u64
-    requires { ⌜ d ≤ 300 ⌝ }
+    requires { ⌜ d ≤ rootLimit ⌝ }
     ensures { λ r. ⌜ r ≡ y d ⌝ }
 {
     square_root(100_000 * (d * d * d * d * d))
@@ -48,17 +50,17 @@ fn root_row(group: u64) -> [i64; 3]
 
 // The root's biomass where the operands are in their ranges.
 fn root_in_range(group: u64, d: u64) -> BiomassRange
-    requires { ⌜ Inside 0 group 5 × Inside 70 d 1000 ⌝ }
+    requires { ⌜ Inside 0 group 5 × Inside leastD d greatestD ⌝ }
     ensures { λ r. ⌜ r ≡ range (rootEnds group d) ⌝ }
 {
     let row = root_row(group);
-    if d <= 300 {
+    if d <= ROOT_LIMIT {
         return on_curve(row[0] as u64, root_power(d), 100_000);
     }
     on_line(row[1], row[2], d)
 }
 
-// The biomass of the root of a tree of the mean diameter d, in tenths of a cm.
+// The biomass of the root of a tree of the mean diameter d, UNITS_TO_CM to the cm.
 pub fn root(group: u64, d: u64) -> Biomass
     ensures { λ r. ⌜ biomass r ≡ root group d ⌝ }
 {

@@ -12,7 +12,10 @@ ghost use lib.IntN.{pos};
 ghost use Rattle.biomass.specs.Report.{biomass};
 ghost use Rattle.biomass.specs.Ends.{range};
 ghost use Rattle.biomass.specs.Stem.{stem, stemEnds, VL, VH};
-ghost use Rattle.biomass.specs.Law.Stem.{InRange};
+ghost use Rattle.biomass.specs.Law.Stem.{InRange, greatestVolume};
+
+// Pi is in units of 10^-8, d of 10^-3 m, and the basal area, a quarter of pi times d squared, of 10^-9 m².
+const AREA_SCALE: u64 = 400_000;
 
 // The merchantable volume between two ends, in document 01's unit for VL and VH.
 struct VolumeEnds {
@@ -23,9 +26,9 @@ struct VolumeEnds {
 // Equation 5. Below 0.118288 m² of basal area the slope counts against the volume, so there the greater slope gives the low.
 fn volume(tariff: u64, d: u64) -> VolumeEnds
     requires { ⌜ InRange tariff d ⌝ }
-    ensures { λ r. ⌜ (VL tariff d ≡ pos (r .low)) × (VH tariff d ≡ pos (r .high)) × (r .high ≤ 1228217028537058651) ⌝ }
+    ensures { λ r. ⌜ (VL tariff d ≡ pos (r .low)) × (VH tariff d ≡ pos (r .high)) × (r .high ≤ greatestVolume) ⌝ }
 {
-    let area = 314_159_265 * (d * d) / 400_000;
+    let area = 314_159_265 * (d * d) / AREA_SCALE;
     let slope = 315_049_301 * (1_000_000_000 * tariff - 138_763_302) / 10_000_000_000;
     let base = 3_605_410_000_000_000 * tariff;
     if 118_288_000 <= area {
@@ -56,7 +59,7 @@ fn stem_in_range(tariff: u64, d: u64, factor: u64, gravity: u64) -> BiomassRange
     }
 }
 
-// The biomass of a stem of the mean diameter d, in tenths of a cm, at a tariff; the factor and the gravity are in hundredths.
+// The biomass of a stem of the mean diameter d, UNITS_TO_CM to the cm, at a tariff; the factor and the gravity are in hundredths.
 pub fn stem(tariff: u64, d: u64, factor: u64, gravity: u64) -> Biomass
     ensures { λ r. ⌜ biomass r ≡ stem tariff d factor gravity ⌝ }
 {

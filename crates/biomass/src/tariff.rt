@@ -1,6 +1,7 @@
 // Step 1: the tariff of one height tree, and of a line.
 use super::answer::Count;
 use super::answer::Refusal;
+use super::limits::MOST_HEIGHTS;
 use super::whole::within;
 ghost use mathlib.Core.Path.{_≡_};
 ghost use Rattle.biomass.specs.Whole.{_div_};
@@ -63,7 +64,7 @@ pub fn single_tariff(c1: i32, c2: i32, c3: i32, c4: i32, cm: u64, tenths: u64) -
 pub fn line_tariff(sum: u64, number: u64) -> Count
     ensures { λ r. ⌜ count r ≡ lineTariff sum number ⌝ }
 {
-    if !within(1, number, 1000) {
+    if !within(1, number, MOST_HEIGHTS) {
         return Count::Refused(Refusal::Operand);
     }
     if !within(number, sum, 50 * number) {

@@ -2,6 +2,7 @@
 use super::answer::Biomass;
 use super::answer::Refusal;
 use super::crown::crown;
+use super::limits::MOST_ESTIMATED;
 use super::root::root;
 use super::stem::stem;
 use super::units::BiomassRange;
@@ -15,7 +16,7 @@ ghost use Rattle.biomass.specs.Tree.{tree, row};
 pub struct AverageTree {
     // The line tariff, 1 to 50.
     pub tariff: u64,
-    // The mean diameter in tenths of a cm, 70 to 1000.
+    // The mean diameter d, UNITS_TO_CM to the cm, LEAST_D to GREATEST_D.
     pub d: u64,
     // Total over merchantable stem volume, in hundredths, 100 to 200.
     pub factor: u64,
@@ -53,7 +54,7 @@ pub fn tree(t: AverageTree) -> Biomass
 pub fn row(trees: u64, t: AverageTree) -> Biomass
     ensures { λ r. ⌜ biomass r ≡ row trees t ⌝ }
 {
-    if !within(0, trees, 100_000_000) {
+    if !within(0, trees, MOST_ESTIMATED) {
         return Biomass::Refused(Refusal::Operand);
     }
     let m = match tree(t) {

@@ -1,15 +1,18 @@
 // Step 3: the number of trees that a line's measured trees stand for.
 use super::answer::Count;
 use super::answer::Refusal;
+use super::limits::GREATEST_AREA;
+use super::limits::MOST_MEASURED;
 use super::whole::within;
 ghost use mathlib.Core.Path.{_≡_};
 ghost use Rattle.biomass.specs.Report.{count};
+ghost use Rattle.biomass.specs.Limits.{mostMeasured, greatestArea};
 ghost use Rattle.biomass.specs.Trees.{trees, treesOf};
 ghost use Rattle.biomass.specs.Law.Report.{Inside};
 
 // Step 3's quotient, where the operands are in their ranges.
 fn trees_of(n: u64, p: u64, q: u64) -> u64
-    requires { ⌜ Inside 0 n 1000000 × Inside 1 p 100000000 × Inside 1 q 100000000 ⌝ }
+    requires { ⌜ Inside 0 n mostMeasured × Inside 1 p greatestArea × Inside 1 q greatestArea ⌝ }
     ensures { λ r. ⌜ r ≡ treesOf n p q ⌝ }
 {
     (200 * n * p + q) / (2 * q)
@@ -19,13 +22,13 @@ fn trees_of(n: u64, p: u64, q: u64) -> u64
 pub fn trees(n: u64, p: u64, q: u64) -> Count
     ensures { λ r. ⌜ count r ≡ trees n p q ⌝ }
 {
-    if !within(0, n, 1_000_000) {
+    if !within(0, n, MOST_MEASURED) {
         return Count::Refused(Refusal::Operand);
     }
-    if !within(1, p, 100_000_000) {
+    if !within(1, p, GREATEST_AREA) {
         return Count::Refused(Refusal::Operand);
     }
-    if !within(1, q, 100_000_000) {
+    if !within(1, q, GREATEST_AREA) {
         return Count::Refused(Refusal::Operand);
     }
     Count::Is(trees_of(n, p, q))

@@ -7,6 +7,7 @@ use mathlib.Core.List.{List, [], _∷_}
 use lib.Dec.{leb, eqb}
 use Rattle.biomass.specs.Whole.{inside}
 use Rattle.biomass.specs.Report.{Report, refused, gives, unless, _then_}
+use Rattle.biomass.specs.Limits.{mostMeasured, mostHeights, mostEstimated}
 use Rattle.biomass.specs.Tariff.{lineTariff}
 use Rattle.biomass.specs.Mean.{mean}
 use Rattle.biomass.specs.Trees.{trees}
@@ -32,21 +33,28 @@ rowed (Closed.Refused why) = refused (number why)
 
 -- ---- a line
 
--- measured trees; the last check declines a line whose S is above what 1,000,000 trees can have
+-- what S and the tariffs added come to at most: of the most trees, each of 100 cm, and of the most height trees, each of tariff 50
+abbrev pub mostSquares : ℕ
+mostSquares = 10000 * mostMeasured
+
+abbrev pub mostTariffs : ℕ
+mostTariffs = 50 * mostHeights
+
+-- measured trees; the last check declines a line whose S would be above that
 unfoldable pub measured : ℕ → ℕ → Line → Report Line
 measured class count l =
     unless (inside 7 class 100) 6
     (unless (leb 1 count) 6
-    (unless (leb (l .tally .n + count) 1000000) 11
-    (unless (leb (l .tally .squares + count * (class * class)) 10000000000) 6
+    (unless (leb (l .tally .n + count) mostMeasured) 11
+    (unless (leb (l .tally .squares + count * (class * class)) mostSquares) 6
     (gives (withTrees class count l)))))
 
--- a height tree; the last check declines a line whose tariffs come to more than 1,000 trees can have
+-- a height tree; the last check declines a line whose tariffs would come to more
 unfoldable pub height : ℕ → ℕ → Line → Report Line
 height cm tenths l =
     tariffOf (l .species) cm tenths then λ T.
-    when (leb 1000 (l .heights .number)) 11
-    (unless (leb (l .heights .tariffs + T) 50000) 6
+    when (leb mostHeights (l .heights .number)) 11
+    (unless (leb (l .heights .tariffs + T) mostTariffs) 6
     (gives (withHeight T l)))
 
 -- the row by steps 4 to 7; what they decline (6), closing declines
@@ -61,7 +69,7 @@ lineRow factors l =
     (mean (l .tally .n) (l .tally .squares) then λ d.
     when (eqb (factorFor factors d) 0) 14
     (trees (l .tally .n) (l .p) (l .q) then λ N.
-    unless (leb N 100000000) 15
+    unless (leb N mostEstimated) 15
     (lineTariff (l .heights .tariffs) (l .heights .number) then λ T.
     worked l T d (factorFor factors d) N))))
 

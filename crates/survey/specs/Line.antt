@@ -4,6 +4,7 @@ use Prim.Native.Nat.{ℕ, _+_, _*_, _/_}
 use mathlib.Core.List.{List}
 use lib.ListN.{getD}
 use Rattle.biomass.specs.Report.{Report}
+use Rattle.biomass.specs.Units.{unitsToCm}
 use Rattle.biomass.specs.Tariff.{singleTariff}
 use Rattle.biomass.specs.Mean.{meanOf}
 use Rattle.biomass.specs.Trees.{treesOf}
@@ -77,7 +78,7 @@ factorAt factors cm = getD factors cm 0
 
 -- "the factor at d div 10 cm"
 abbrev pub wholeCm : ℕ → ℕ
-wholeCm d = d / 10
+wholeCm d = d / unitsToCm
 
 abbrev pub factorFor : List ℕ → ℕ → ℕ
 factorFor factors d = factorAt factors (wholeCm d)

@@ -8,6 +8,7 @@ use lib.Dec.{leb, ltb, eqb}
 use lib.IntN.{pos}
 use Rattle.biomass.specs.Whole.{inside}
 use Rattle.biomass.specs.Report.{Report, refused, gives, unless, _then_}
+use Rattle.biomass.specs.Limits.{mostMeasured, mostHeights, mostEstimated, greatestArea}
 use Rattle.biomass.specs.declared.tree.AverageTree.{AverageTree}
 use Rattle.survey.specs.Refusal.{number, when}
 use Rattle.survey.specs.Line.{begun, withTrees, withHeight, tariffOf, T-of, d-of, N-of, factorAt, factorFor, treeWith, Estimate, noTrees, estimatedRow, emptyRow}
@@ -143,8 +144,8 @@ opened stratum id s = anyLine stratum id (take (s .closed) (s .rows))
 unfoldable pub openLine : ℕ → ℕ → ℕ → ℕ → Survey → Report Survey
 openLine stratum id p q s =
     when (s .ended) 5
-    (unless (inside 1 p 100000000) 6
-    (unless (inside 1 q 100000000) 6
+    (unless (inside 1 p greatestArea) 6
+    (unless (inside 1 q greatestArea) 6
     (when (s .active) 9
     (unless (declared id s) 8
     (when (opened stratum id s) 7
@@ -159,7 +160,7 @@ measure class count s =
     (unless (s .active) 10
     (unless (inside 7 class 100) 6
     (unless (leb 1 count) 6
-    (unless (leb (s .line .tally .n + count) 1000000) 11
+    (unless (leb (s .line .tally .n + count) mostMeasured) 11
     (gives (withLine s (withTrees class count (s .line))))))))
 
 -- "05 height tree: cm (1, 10 to 100), height in tenths of a metre (2, 1 to 600)." "1,000 height trees a line"
@@ -169,7 +170,7 @@ giveHeight cm tenths s =
     when (s .ended) 5
     (unless (s .active) 10
     (tariffOf (s .line .species) cm tenths then λ T.
-    when (leb 1000 (s .line .heights .number)) 11
+    when (leb mostHeights (s .line .heights .number)) 11
     (gives (withLine s (withHeight T (s .line))))))
 
 -- "the factor at d div 10 cm" of the open line; 0: none was given
@@ -199,7 +200,7 @@ close s =
     (cond (eqb (s .line .tally .n) 0) (gives (withRow s (closingRow s)))
     (when (eqb (s .line .heights .number) 0) 12
     (when (eqb (f-of s) 0) 14
-    (unless (leb (N-of (s .line)) 100000000) 15
+    (unless (leb (N-of (s .line)) mostEstimated) 15
     (gives (withRow s (closingRow s))))))))
 
 -- "Ending: 9."

@@ -4,6 +4,8 @@ use mathlib.Core.Path.{_≡_}
 use mathlib.Core.Bool.{true, false}
 use mathlib.Core.List.{List, [], _∷_}
 use lib.ListN.{length, getD, take}
+use Rattle.biomass.specs.Units.{greatestD}
+use Rattle.biomass.specs.Limits.{mostMeasured, mostHeights, mostEstimated, greatestArea}
 use Rattle.biomass.specs.Law.Report.{Inside}
 use Rattle.biomass.specs.Law.Tree.{RowBounds}
 use Rattle.survey.specs.Line.{factorAt, emptyRow}
@@ -28,20 +30,20 @@ pub record ValidFactor (cm factor : ℕ) : Type 0 where
 
 -- measured trees: up to 1,000,000, each of 7 to 100 cm
 pub record ValidTally (t : Tally) : Type 0 where
-  pub few : t .n ≤ 1000000
+  pub few : t .n ≤ mostMeasured
   pub squares : Inside (49 * t .n) (t .squares) (10000 * t .n)
 
 -- height trees: up to 1,000, each with a tariff of 1 to 50
 pub record ValidHeights (h : Heights) : Type 0 where
-  pub few : h .number ≤ 1000
+  pub few : h .number ≤ mostHeights
   pub tariffs : Inside (h .number) (h .tariffs) (50 * h .number)
 
 -- an open line: its species is the survey's, and what is noted of it is within the limits
 pub record ValidLine (s : Survey) (l : Line) : Type 0 where
   pub is-declared : declared (l .id) s ≡ true
   pub species : l .species ≡ speciesAt s (l .id)
-  pub p : Inside 1 (l .p) 100000000
-  pub q : Inside 1 (l .q) 100000000
+  pub p : Inside 1 (l .p) greatestArea
+  pub q : Inside 1 (l .q) greatestArea
   pub tally : ValidTally (l .tally)
   pub heights : ValidHeights (l .heights)
   -- no line of the same stratum and species was closed before
@@ -51,8 +53,8 @@ pub record ValidLine (s : Survey) (l : Line) : Type 0 where
 pub record Within (r : Row) : Type 0 where
   pub species : r .species ≤ 15
   pub tariff : r .tariff ≤ 50
-  pub d : r .d ≤ 1000
-  pub trees : r .trees ≤ 100000000
+  pub d : r .d ≤ greatestD
+  pub trees : r .trees ≤ mostEstimated
   pub biomass : RowBounds (r .trees) (r .biomass)
 
 -- no two rows are of the same stratum and species

@@ -5,6 +5,9 @@ use super::refusal::of_figure;
 use super::row::Row;
 use biomass::answer::Biomass;
 use biomass::answer::Count;
+use biomass::limits::MOST_ESTIMATED;
+use biomass::limits::MOST_HEIGHTS;
+use biomass::limits::MOST_MEASURED;
 use biomass::mean::mean;
 use biomass::tariff::line_tariff;
 use biomass::tariff::single_tariff;
@@ -12,12 +15,20 @@ use biomass::tree::AverageTree;
 use biomass::trees::trees;
 use biomass::units::BiomassRange;
 use biomass::units::Milligrams;
+use biomass::units::UNITS_TO_CM;
 use biomass::whole::within;
 ghost use mathlib.Core.Path.{_≡_};
 ghost use Prim.Native.Nat.{_≤_};
+ghost use Rattle.biomass.specs.Units.{leastD, greatestD};
+ghost use Rattle.biomass.specs.Limits.{mostEstimated};
 ghost use Rattle.biomass.specs.Law.Report.{Inside};
 ghost use Rattle.survey.specs.Line.{begun, emptyRow};
 ghost use Rattle.survey.specs.Apply.{noted, rowed, measured, height, worked, lineRow};
+
+// What the squares and the tariffs of a line add up to at most: those of trees of 100 cm, and of tariffs of 50.
+const MOST_SQUARES: u64 = 10_000 * MOST_MEASURED;
+
+const MOST_TARIFFS: u64 = 50 * MOST_HEIGHTS;
 
 // Measured trees: how many, and their classes in cm, squared and added.
 pub struct Tally {
@@ -87,12 +98,12 @@ impl Line {
         if trees < 1 {
             return Noted::Refused(Refusal::Operand);
         }
-        if 1_000_000 - trees < self.tally.n {
+        if MOST_MEASURED - trees < self.tally.n {
             return Noted::Refused(Refusal::Limit);
         }
         let added = trees * (cm * cm);
         // No survey reaches a line of which this is true.
-        if 10_000_000_000 - added < self.tally.squares {
+        if MOST_SQUARES - added < self.tally.squares {
             return Noted::Refused(Refusal::Operand);
         }
         let n = self.tally.n + trees;
@@ -112,11 +123,11 @@ impl Line {
             Count::Is(t) => t,
             Count::Refused(why) => return Noted::Refused(of_figure(why)),
         };
-        if 1000 <= self.heights.number {
+        if MOST_HEIGHTS <= self.heights.number {
             return Noted::Refused(Refusal::Limit);
         }
         // No survey reaches a line of which this is true.
-        if 50_000 - tariff < self.heights.tariffs {
+        if MOST_TARIFFS - tariff < self.heights.tariffs {
             return Noted::Refused(Refusal::Operand);
         }
         let number = self.heights.number + 1;
@@ -147,7 +158,7 @@ impl Line {
 
     // The row of a line whose tariff, mean diameter, factor and number of trees are known.
     fn worked(self, tariff: u64, d: u64, factor: u64, number: u64) -> Closed
-        requires { ⌜ Inside 1 tariff 50 × Inside 70 d 1000 × (number ≤ 100000000) ⌝ }
+        requires { ⌜ Inside 1 tariff 50 × Inside leastD d greatestD × (number ≤ mostEstimated) ⌝ }
         ensures { λ r. ⌜ rowed r ≡ worked self tariff d factor number ⌝ }
     {
         let s = self.species;
@@ -187,7 +198,7 @@ impl Line {
             Count::Is(d) => d,
             Count::Refused(why) => return Closed::Refused(of_figure(why)),
         };
-        let cm = (d / 10) as usize;
+        let cm = (d / UNITS_TO_CM) as usize;
         let factor = factors[cm] as u64;
         if factor == 0 {
             return Closed::Refused(Refusal::NoFactor);
@@ -196,7 +207,7 @@ impl Line {
             Count::Is(n) => n,
             Count::Refused(why) => return Closed::Refused(of_figure(why)),
         };
-        if 100_000_000 < number {
+        if MOST_ESTIMATED < number {
             return Closed::Refused(Refusal::TooManyTrees);
         }
         let tariff = match line_tariff(self.heights.tariffs, self.heights.number) {

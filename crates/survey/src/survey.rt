@@ -6,6 +6,7 @@ use super::line::Line;
 use super::line::Noted;
 use super::refusal::Refusal;
 use super::row::Row;
+use biomass::limits::GREATEST_AREA;
 use biomass::whole::within;
 ghost use mathlib.Core.Path.{_≡_};
 ghost use Prim.Native.Nat.{_<_};
@@ -272,10 +273,10 @@ impl Survey {
         if self.ended {
             return self.refuse(Refusal::Ended);
         }
-        if !within(1, p as u64, 100_000_000) {
+        if !within(1, p as u64, GREATEST_AREA) {
             return self.refuse(Refusal::Operand);
         }
-        if !within(1, q as u64, 100_000_000) {
+        if !within(1, q as u64, GREATEST_AREA) {
             return self.refuse(Refusal::Operand);
         }
         if self.active {

@@ -5,6 +5,8 @@ use mathlib.Core.Path.{_≡_, _∙_, ap}
 use mathlib.Core.Bool.{Bool}
 use Rattle.biomass.specs.Whole.{inside}
 use Rattle.biomass.specs.Report.{Report, gives, unless, _then_}
+use Rattle.biomass.specs.Units.{leastD, greatestD}
+use Rattle.biomass.specs.Limits.{mostMeasured, mostHeights, mostEstimated, greatestArea}
 use Rattle.biomass.specs.Tariff.{lineTariff}
 use Rattle.biomass.specs.Mean.{mean, meanOf}
 use Rattle.biomass.specs.Trees.{trees, treesOf}
@@ -23,28 +25,28 @@ use Rattle.biomass.specs.declared.tree.AverageTree.{AverageTree}
 open-to : {A : Type 0} {lo x hi : ℕ} (n : ℕ) (next : Report A) → Inside lo x hi → unless (inside lo x hi) n next ≡ next
 open-to {lo} {x} {hi} n next i = ap (λ (test : Bool). unless test n next) (true-inside lo x hi (i .least) (i .most))
 
-pub line-tariff-answers : (sum number : ℕ) → Inside 1 number 1000 → Inside number sum (50 * number) → lineTariff sum number ≡ gives (sum / number)
+pub line-tariff-answers : (sum number : ℕ) → Inside 1 number mostHeights → Inside number sum (50 * number) → lineTariff sum number ≡ gives (sum / number)
 unfolding lineTariff
 line-tariff-answers sum number n s = open-to 6 _ n ∙ open-to 6 _ s
 
-pub mean-answers : (n S : ℕ) → Inside 1 n 1000000 → Inside (49 * n) S (10000 * n) → mean n S ≡ gives (meanOf n S)
+pub mean-answers : (n S : ℕ) → Inside 1 n mostMeasured → Inside (49 * n) S (10000 * n) → mean n S ≡ gives (meanOf n S)
 unfolding mean
 mean-answers n S t s = open-to 6 _ t ∙ open-to 6 _ s
 
-pub trees-answers : (n p q : ℕ) → Inside 0 n 1000000 → Inside 1 p 100000000 → Inside 1 q 100000000 → trees n p q ≡ gives (treesOf n p q)
+pub trees-answers : (n p q : ℕ) → Inside 0 n mostMeasured → Inside 1 p greatestArea → Inside 1 q greatestArea → trees n p q ≡ gives (treesOf n p q)
 unfolding trees
 trees-answers n p q t a b = open-to 6 _ t ∙ open-to 6 _ a ∙ open-to 6 _ b
 
 -- the three parts, and one tree
-pub stem-answers : (T d f s : ℕ) → Inside 1 T 50 → Inside 70 d 1000 → Inside 100 f 200 → Inside 1 s 100 → stem T d f s ≡ gives (range (stemEnds T d f s))
+pub stem-answers : (T d f s : ℕ) → Inside 1 T 50 → Inside leastD d greatestD → Inside 100 f 200 → Inside 1 s 100 → stem T d f s ≡ gives (range (stemEnds T d f s))
 unfolding stem
 stem-answers T d f s t e a b = open-to 6 _ t ∙ open-to 6 _ e ∙ open-to 6 _ a ∙ open-to 6 _ b
 
-pub crown-answers : (g d : ℕ) → Inside 0 g 7 → Inside 70 d 1000 → crown g d ≡ gives (range (crownEnds g d))
+pub crown-answers : (g d : ℕ) → Inside 0 g 7 → Inside leastD d greatestD → crown g d ≡ gives (range (crownEnds g d))
 unfolding crown
 crown-answers g d a e = open-to 6 _ a ∙ open-to 6 _ e
 
-pub root-answers : (g d : ℕ) → Inside 0 g 5 → Inside 70 d 1000 → root g d ≡ gives (range (rootEnds g d))
+pub root-answers : (g d : ℕ) → Inside 0 g 5 → Inside leastD d greatestD → root g d ≡ gives (range (rootEnds g d))
 unfolding root
 root-answers g d a e = open-to 6 _ a ∙ open-to 6 _ e
 
@@ -57,7 +59,7 @@ tree-answers t o =
       root-answers (t .root) (t .d) (o .root) (o .d),
     )
 
-pub row-answers : (N : ℕ) (t : AverageTree) → Inside 0 N 100000000 → Operands t → row N t ≡ gives (rowOf N (treeOf t))
+pub row-answers : (N : ℕ) (t : AverageTree) → Inside 0 N mostEstimated → Operands t → row N t ≡ gives (rowOf N (treeOf t))
 unfolding row
 row-answers N t n o = open-to 6 _ n ∙ ap (λ (r : Report BiomassRange). r then (λ m. gives (rowOf N m))) (tree-answers t o)
 

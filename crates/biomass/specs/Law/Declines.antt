@@ -7,6 +7,7 @@ use mathlib.Core.Logic.{_⊎_, inl, inr, ⊎-elim}
 use lib.IntN.{ℤ, pos, negsuc}
 use Rattle.biomass.specs.Whole.{inside, _div_}
 use Rattle.biomass.specs.Report.{Report, refused, gives, unless, _then_}
+use Rattle.biomass.specs.Limits.{mostMeasured, mostHeights, mostEstimated, greatestArea}
 use Rattle.biomass.specs.Tariff.{tariffSum, fromOneToFifty, singleTariff, lineTariff}
 use Rattle.biomass.specs.Mean.{mean, meanOf, dInRange}
 use Rattle.biomass.specs.Trees.{trees, treesOf}
@@ -74,18 +75,18 @@ single-tariff-declines c1 c2 c3 c4 D h =
 pub line-tariff-declines : (sum number : ℕ) → Declines Six (lineTariff sum number)
 unfolding lineTariff
 line-tariff-declines sum number =
-    six (inside 1 number 1000) _ (six (inside number sum (50 * number)) _ (gives-declines Six (sum / number)))
+    six (inside 1 number mostHeights) _ (six (inside number sum (50 * number)) _ (gives-declines Six (sum / number)))
 
 -- ---- the other figures
 
 pub mean-declines : (n S : ℕ) → Declines Six (mean n S)
 unfolding mean
-mean-declines n S = six (inside 1 n 1000000) _ (six (inside (49 * n) S (10000 * n)) _ (gives-declines Six (meanOf n S)))
+mean-declines n S = six (inside 1 n mostMeasured) _ (six (inside (49 * n) S (10000 * n)) _ (gives-declines Six (meanOf n S)))
 
 pub trees-declines : (n p q : ℕ) → Declines Six (trees n p q)
 unfolding trees
 trees-declines n p q =
-    six (inside 0 n 1000000) _ (six (inside 1 p 100000000) _ (six (inside 1 q 100000000) _ (gives-declines Six (treesOf n p q))))
+    six (inside 0 n mostMeasured) _ (six (inside 1 p greatestArea) _ (six (inside 1 q greatestArea) _ (gives-declines Six (treesOf n p q))))
 
 pub stem-declines : (T d f s : ℕ) → Declines Six (stem T d f s)
 unfolding stem
@@ -110,7 +111,7 @@ tree-declines t =
 
 pub row-declines : (N : ℕ) (t : AverageTree) → Declines Six (row N t)
 unfolding row
-row-declines N t = six (inside 0 N 100000000) _ (then-declines Six (tree t) _ (tree-declines t) (λ m. gives-declines Six (rowOf N m)))
+row-declines N t = six (inside 0 N mostEstimated) _ (then-declines Six (tree t) _ (tree-declines t) (λ m. gives-declines Six (rowOf N m)))
 
 pub project-declines : (sums : BiomassRange) (N : ℕ) → Declines Six (project sums N)
 unfolding project

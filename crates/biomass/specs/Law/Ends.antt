@@ -11,8 +11,9 @@ use lib.Dec.{T, leb, lit≤}
 use lib.IntN.{ℤ, pos, negsuc, negℤ, natAbs, _+ℤ_, _*ℤ_}
 use lib.Signed.{leZ, _≤ℤ_, leZ-yes}
 use borrow.Author.Tests.{leb-true, leb-false}
-use Rattle.biomass.specs.Ends.{Ends, entry, curve, straight}
 use Rattle.biomass.specs.Whole.{_div_}
+use Rattle.biomass.specs.Units.{unitsToCm, greatestD}
+use Rattle.biomass.specs.Ends.{Ends, entry, curve, straight}
 use Rattle.biomass.specs.Law.Report.{both-true}
 use Rattle.biomass.specs.Law.Signed.{Diff, parts, add, neg, mul, same}
 
@@ -25,13 +26,13 @@ pub record Bounded (e : Ends) (gap most : ℕ) : Type 0 where
   pub near : natAbs (e .high) ≤ natAbs (e .low) + gap
   pub small : natAbs (e .high) ≤ most
 
--- A straight line that has risen above 0 at d: `tenths` are its tenths of a mg there. The bounds keep it within 64 bits
+-- A straight line that has risen above 0 at d: `risen` is how far, with `unitsToCm` of it to the mg. The bounds keep it within 64 bits
 pub record Rising (start rise : ℤ) (d : ℕ) : Type 0 where
-  pub tenths : ℕ
-  pub is : pos 10 *ℤ start +ℤ rise *ℤ pos d ≡ pos tenths
+  pub risen : ℕ
+  pub is : pos unitsToCm *ℤ start +ℤ rise *ℤ pos d ≡ pos risen
   pub start-small : natAbs start ≤ 10 ^ 9
   pub rise-small : natAbs rise ≤ 10 ^ 9
-  pub d-small : d ≤ 1000
+  pub d-small : d ≤ greatestD
 
 -- A curve's coefficient: 0 or above, and at most `most`
 pub record Coefficient (k : ℤ) (most : ℕ) : Type 0 where
@@ -48,12 +49,12 @@ coefficient-not-below [] e g = leZ-yes tt
 coefficient-not-below (row ∷ rows) e zero = leZ-yes (rw (both-true (leZ (pos 0) (getD row 0 (pos 0))) (wholes rows) e .0) tt)
 coefficient-not-below (row ∷ rows) e (suc g) = coefficient-not-below rows (both-true (leZ (pos 0) (getD row 0 (pos 0))) (wholes rows) e .1) g
 
--- A straight line that begins below 0, is not below it from the diameter after `from` on, and is at most `top` mg at 1000
+-- A straight line that begins below 0, is not below it from the diameter after `from` on, and is at most `top` mg at the greatest diameter
 pub record Line (start rise : ℤ) (from top : ℕ) : Type 0 where
   pub falls : start ≡ negℤ (pos (natAbs start))
   pub rises : rise ≡ pos (natAbs rise)
-  pub above : 10 * natAbs start ≤ natAbs rise * suc from
-  pub below : natAbs rise * 1000 ≤ 10 * natAbs start + 10 * top
+  pub above : unitsToCm * natAbs start ≤ natAbs rise * suc from
+  pub below : natAbs rise * greatestD ≤ unitsToCm * natAbs start + unitsToCm * top
   pub start-small : natAbs start ≤ 10 ^ 9
   pub rise-small : natAbs rise ≤ 10 ^ 9
 
@@ -82,23 +83,23 @@ curve-bounded k p m most q top c m-some most-m p-q fits =
         record { low-whole = refl; high-whole = refl; ordered = omega arith; near = omega arith; small = omega arith }
 
 -- Such a line, at a diameter d above `from`
-module _ {start rise : ℤ} {from top : ℕ} (line : Line start rise from top) (d : ℕ) (after : from < d) (d-small : d ≤ 1000) where
-  line-tenths : pos 10 *ℤ start +ℤ rise *ℤ pos d ≡ pos (natAbs rise * d - 10 * natAbs start)
-  line-tenths =
+module _ {start rise : ℤ} {from top : ℕ} (line : Line start rise from top) (d : ℕ) (after : from < d) (d-small : d ≤ greatestD) where
+  line-risen : pos unitsToCm *ℤ start +ℤ rise *ℤ pos d ≡ pos (natAbs rise * d - unitsToCm * natAbs start)
+  line-risen =
       let falls : Diff start 0 (natAbs start) = subst (λ z. Diff z 0 (natAbs start)) (sym (line .falls)) (neg (parts (pos (natAbs start)))) in
       let rises : Diff rise (natAbs rise) 0 = subst (λ z. Diff z (natAbs rise) 0) (sym (line .rises)) (parts (pos (natAbs rise))) in
       let further : natAbs rise * suc from ≤ natAbs rise * d = mul-le-mul-left (natAbs rise) after in
       same
-      (add (mul (parts (pos 10)) falls) (mul rises (parts (pos d))))
-      (parts (pos (natAbs rise * d - 10 * natAbs start)))
+      (add (mul (parts (pos unitsToCm)) falls) (mul rises (parts (pos d))))
+      (parts (pos (natAbs rise * d - unitsToCm * natAbs start)))
       (omega (arith, line .above))
 
   pub line-rising : Rising start rise d
-  line-rising = record { tenths = _; is = line-tenths; start-small = line .start-small; rise-small = line .rise-small; d-small = d-small }
+  line-rising = record { risen = _; is = line-risen; start-small = line .start-small; rise-small = line .rise-small; d-small = d-small }
 
   straight-bounded : Bounded (straight start rise d) 2 (top + 1)
-  straight-bounded = subst (λ z. Bounded (record { low = z div 10; high = z div 10 +ℤ pos 1 }) 2 (top + 1)) (sym line-tenths)
-      (let further : natAbs rise * d ≤ natAbs rise * 1000 = mul-le-mul-left (natAbs rise) d-small in
+  straight-bounded = subst (λ z. Bounded (record { low = z div unitsToCm; high = z div unitsToCm +ℤ pos 1 }) 2 (top + 1)) (sym line-risen)
+      (let further : natAbs rise * d ≤ natAbs rise * greatestD = mul-le-mul-left (natAbs rise) d-small in
       record { low-whole = refl; high-whole = refl; ordered = omega arith; near = omega arith; small = omega (arith, line .below) })
 
 -- A row of a table of groups: a curve's coefficient and the straight line that follows the curve
@@ -107,8 +108,8 @@ pub record Group (k start rise : ℤ) (most from top : ℕ) : Type 0 where
   pub line : Line start rise from top
 
 -- For a row of literals each test is computed
-pub group : {k start rise most from top : ℕ} → T (leb k most) → T (leb (10 * suc start) (rise * suc from))
-    → T (leb (rise * 1000) (10 * suc start + 10 * top)) → T (leb (suc start) (10 ^ 9)) → T (leb rise (10 ^ 9))
+pub group : {k start rise most from top : ℕ} → T (leb k most) → T (leb (unitsToCm * suc start) (rise * suc from))
+    → T (leb (rise * greatestD) (unitsToCm * suc start + unitsToCm * top)) → T (leb (suc start) (10 ^ 9)) → T (leb rise (10 ^ 9))
     → Group (pos k) (negsuc start) (pos rise) most from top
 group k-small above below start-small rise-small =
     record {
@@ -125,7 +126,7 @@ group k-small above below start-small rise-small =
     }
 
 -- A part that is a curve up to `from` and a straight line above it. The curve's power is at most q, so that the curve stays below the line's top
-pub part-bounded : {k start rise : ℤ} {most from top : ℕ} → Group k start rise most from top → (d p q m : ℕ) → d ≤ 1000 → (d ≤ from → p ≤ q)
+pub part-bounded : {k start rise : ℤ} {most from top : ℕ} → Group k start rise most from top → (d p q m : ℕ) → d ≤ greatestD → (d ≤ from → p ≤ q)
     → 0 < m → most ≤ m → most * (q + 1) < (top + 1) * m → Bounded (cond (leb d from) (curve k p m) (straight start rise d)) 2 (top + 1)
 part-bounded {k} {start} {rise} {most} {from} {top} g d p q m d-small p-small m-some most-m fits =
     either-side (λ t. Bounded (cond t (curve k p m) (straight start rise d)) 2 (top + 1)) d from

@@ -11,14 +11,15 @@ use lib.Dec.{leb, lit<, eqb·suc-zero}
 use lib.IntN.{ℤ, pos, natAbs, _+ℤ_, _*ℤ_}
 use lib.Signed.{_≤ℤ_}
 use Rattle.biomass.specs.Whole.{_div_}
-use Rattle.biomass.specs.Fraction.{Fraction, whole, _⊕_, _⊗_, _over_, _≼_}
+use Rattle.biomass.specs.Report.{gives}
+use Rattle.biomass.specs.Units.{unitsToCm, crownLimit, rootLimit}
 use Rattle.biomass.specs.Ends.{Ends, curve, straight}
 use Rattle.biomass.specs.Crown as Crown
 use Rattle.biomass.specs.Crown.{crownEnds}
 use Rattle.biomass.specs.Root as Root
 use Rattle.biomass.specs.Root.{rootEnds}
-use Rattle.biomass.specs.Report.{gives}
-use Rattle.biomass.specs.Tree.{tree, row, rowOf}
+use Rattle.biomass.specs.Tree.{tree, row, rowLow, rowHigh}
+use Rattle.biomass.specs.Fraction.{Fraction, whole, _⊕_, _⊗_, _over_, _≼_}
 use Rattle.biomass.specs.Exact.{Given, value, NotBelowCrown, NotAboveCrown, NotBelowRoot, NotAboveRoot, exactLine, exactStem, exactCrown, exactRoot, exactTree, exactRow, NotBelow, NotAbove}
 use Rattle.biomass.specs.Law.Signed.{pos-le}
 use Rattle.biomass.specs.Law.Fraction.{≼-refl, ≼-trans, ⊕-mono, ⊗-mono, whole-⊕, floor, ceiling, share-not-under, share-not-over, no-share}
@@ -37,13 +38,13 @@ module _ (g d : ℕ) (power : Given) where
   crown-den : 0 < exactCrown g d power .den
   unfolding exactCrown
   crown-den =
-      either-side (λ t. 0 < (cond t (whole (Crown.k g) over 10 ⊗ value power) (exactLine (Crown.a g) (Crown.b g) d)) .den) d 500
+      either-side (λ t. 0 < (cond t (whole (Crown.k g) over 10 ⊗ value power) (exactLine (Crown.a g) (Crown.b g) d)) .den) d crownLimit
       (λ on-curve. omega (arith, power .t-at-least-1)) (λ on-line. lit< tt)
 
   root-den : 0 < exactRoot g d power .den
   unfolding exactRoot
   root-den =
-      either-side (λ t. 0 < (cond t (whole (Root.curveB g) ⊗ value power) (exactLine (Root.lineA g) (Root.lineB g) d)) .den) d 300
+      either-side (λ t. 0 < (cond t (whole (Root.curveB g) ⊗ value power) (exactLine (Root.lineA g) (Root.lineB g) d)) .den) d rootLimit
       (λ on-curve. omega (arith, power .t-at-least-1)) (λ on-line. lit< tt)
 
 stem-den : (T d f s : ℕ) → 0 < exactStem T d f s .den
@@ -68,7 +69,7 @@ module _ (k start rise : ℤ) {most : ℕ} (c : Coefficient k most) (q : ℕ) (s
   part-not-under not-below =
       either-side
       (λ t. whole ((cond t (curve k p (10 ^ 5 * q)) (straight start rise d)) .low) ≼ cond t (whole k over q ⊗ value power) (exactLine start rise d))
-      d limit (λ on-curve. on-curve-side (not-below on-curve)) (λ on-line. floor _ 10 (lit< tt))
+      d limit (λ on-curve. on-curve-side (not-below on-curve)) (λ on-line. floor _ unitsToCm (lit< tt))
     where
       on-curve-side : p * power .t ≤ 10 ^ 5 * power .r → whole ((k *ℤ pos p) div (10 ^ 5 * q)) ≼ whole k over q ⊗ value power
       on-curve-side h =
@@ -82,7 +83,7 @@ module _ (k start rise : ℤ) {most : ℕ} (c : Coefficient k most) (q : ℕ) (s
   part-not-over not-above =
       either-side
       (λ t. cond t (whole k over q ⊗ value power) (exactLine start rise d) ≼ whole ((cond t (curve k p (10 ^ 5 * q)) (straight start rise d)) .high))
-      d limit (λ on-curve. on-curve-side (not-above on-curve)) (λ on-line. ceiling _ 10 (lit< tt))
+      d limit (λ on-curve. on-curve-side (not-above on-curve)) (λ on-line. ceiling _ unitsToCm (lit< tt))
     where
       on-curve-side : 10 ^ 5 * power .r ≤ (p + 1) * power .t → whole k over q ⊗ value power ≼ whole ((k *ℤ pos (p + 1)) div (10 ^ 5 * q) +ℤ pos 1)
       on-curve-side h =
@@ -92,29 +93,29 @@ module _ (k start rise : ℤ) {most : ℕ} (c : Coefficient k most) (q : ℕ) (s
           (ceiling (k *ℤ pos (p + 1)) (10 ^ 5 * q) (omega arith))
 
 module _ (g d : ℕ) (power : Given) (in-table : g ≤ 7) where
-  pub crown-not-under : (d ≤ 500 → NotBelowCrown d power) → whole (crownEnds g d .low) ≼ exactCrown g d power
+  pub crown-not-under : (d ≤ crownLimit → NotBelowCrown d power) → whole (crownEnds g d .low) ≼ exactCrown g d power
   unfolding crownEnds exactCrown
   crown-not-under not-below =
-      part-not-under (Crown.k g) (Crown.a g) (Crown.b g) (crown-k g in-table) 10 (lit< tt) power d 500 (Crown.w d)
+      part-not-under (Crown.k g) (Crown.a g) (Crown.b g) (crown-k g in-table) 10 (lit< tt) power d crownLimit (Crown.w d)
       (λ on-curve. crown-power-not-under d power (not-below on-curve))
 
-  pub crown-not-over : (d ≤ 500 → NotAboveCrown d power) → exactCrown g d power ≼ whole (crownEnds g d .high)
+  pub crown-not-over : (d ≤ crownLimit → NotAboveCrown d power) → exactCrown g d power ≼ whole (crownEnds g d .high)
   unfolding crownEnds exactCrown
   crown-not-over not-above =
-      part-not-over (Crown.k g) (Crown.a g) (Crown.b g) (crown-k g in-table) 10 (lit< tt) power d 500 (Crown.w d)
+      part-not-over (Crown.k g) (Crown.a g) (Crown.b g) (crown-k g in-table) 10 (lit< tt) power d crownLimit (Crown.w d)
       (λ on-curve. crown-power-not-over d power (not-above on-curve))
 
 module _ (g d : ℕ) (power : Given) (in-table : g ≤ 5) where
-  pub root-not-under : (d ≤ 300 → NotBelowRoot d power) → whole (rootEnds g d .low) ≼ exactRoot g d power
+  pub root-not-under : (d ≤ rootLimit → NotBelowRoot d power) → whole (rootEnds g d .low) ≼ exactRoot g d power
   unfolding rootEnds exactRoot
   root-not-under not-below =
-      part-not-under (Root.curveB g) (Root.lineA g) (Root.lineB g) (root-b g in-table) 1 (lit< tt) power d 300 (Root.y d)
+      part-not-under (Root.curveB g) (Root.lineA g) (Root.lineB g) (root-b g in-table) 1 (lit< tt) power d rootLimit (Root.y d)
       (λ on-curve. root-power-not-under d power (not-below on-curve))
 
-  pub root-not-over : (d ≤ 300 → NotAboveRoot d power) → exactRoot g d power ≼ whole (rootEnds g d .high)
+  pub root-not-over : (d ≤ rootLimit → NotAboveRoot d power) → exactRoot g d power ≼ whole (rootEnds g d .high)
   unfolding rootEnds exactRoot
   root-not-over not-above =
-      part-not-over (Root.curveB g) (Root.lineA g) (Root.lineB g) (root-b g in-table) 1 (lit< tt) power d 300 (Root.y d)
+      part-not-over (Root.curveB g) (Root.lineA g) (Root.lineB g) (root-b g in-table) 1 (lit< tt) power d rootLimit (Root.y d)
       (λ on-curve. root-power-not-over d power (not-above on-curve))
 
 -- A part is the greater, the greater its power: the coefficient is not below 0, and the straight line uses no power
@@ -176,27 +177,36 @@ module _ (t : AverageTree) (crownPower rootPower crownPower′ rootPower′ : Gi
   unfolding exactCrown exactRoot
   tree-ordered n n′ =
       let on-crown =
-      part-ordered (Crown.k (t .crown)) (Crown.a (t .crown)) (Crown.b (t .crown)) 10 crownPower crownPower′ (t .d) 500 (crown-k-not-below (t .crown))
+      part-ordered (Crown.k (t .crown)) (Crown.a (t .crown)) (Crown.b (t .crown)) 10 crownPower crownPower′ (t .d) crownLimit (crown-k-not-below (t .crown))
       (λ on-curve. crown-powers-ordered (t .d) crownPower crownPower′ (n .on-crown on-curve) (n′ .on-crown on-curve)) in
       let on-root =
-      part-ordered (Root.curveB (t .root)) (Root.lineA (t .root)) (Root.lineB (t .root)) 1 rootPower rootPower′ (t .d) 300 (root-b-not-below (t .root))
+      part-ordered (Root.curveB (t .root)) (Root.lineA (t .root)) (Root.lineB (t .root)) 1 rootPower rootPower′ (t .d) rootLimit (root-b-not-below (t .root))
       (λ on-curve. root-powers-ordered (t .d) rootPower rootPower′ (n .on-root on-curve) (n′ .on-root on-curve)) in
       ⊕-mono (⊕-mono (≼-refl (exactStem (t .tariff) (t .d) (t .factor) (t .gravity))) on-crown) on-root
 
 -- ---- one row
 
 -- N / 100 of a tree is not over the row's high, also where N is 0 and no 1 is added
-row-high : (N : ℕ) (one : BiomassRange) {x : Fraction} → x ≼ whole (pos (one .high .0)) → whole (pos N) over 100 ⊗ x ≼ whole (pos (rowOf N one .high .0))
+row-high : (N : ℕ) (one : BiomassRange) {x : Fraction} → x ≼ whole (pos (one .high .0)) → whole (pos N) over 100 ⊗ x ≼ whole (pos (rowHigh N one))
 row-high zero one {x} h = no-share 100 x
 row-high (suc n) one h = rw (eqb·suc-zero n) (share-not-over (suc n) 100 (one .high .0) (lit< tt) h)
 
+-- Each end by itself, of a tree that gives m and its own number of them
+module _ (N : ℕ) (t : AverageTree) (m : BiomassRange) (e : tree t ≡ gives m) (crownPower rootPower : Given) where
+  pub low-not-under : NotBelow t crownPower rootPower → whole (pos (rowLow N m)) ≼ exactRow N t crownPower rootPower
+  low-not-under n = share-not-under N 100 (m .low .0) (lit< tt) (tree-not-under t m e crownPower rootPower n)
+
+  pub high-not-over : NotAbove t crownPower rootPower → exactRow N t crownPower rootPower ≼ whole (pos (rowHigh N m))
+  high-not-over n = row-high N m (tree-not-over t m e crownPower rootPower n)
+
+-- Both, with one number
 module _ (N : ℕ) (t : AverageTree) (m : BiomassRange) (e : row N t ≡ gives m) (crownPower rootPower : Given) where
   pub row-not-under : NotBelow t crownPower rootPower → whole (pos (m .low .0)) ≼ exactRow N t crownPower rootPower
   row-not-under n =
       let g = row-gives N t m e in
-      rw (g .is) (share-not-under N 100 (g .one .low .0) (lit< tt) (tree-not-under t (g .one) (g .one-is) crownPower rootPower n))
+      rw (g .is) (low-not-under N t (g .one) (g .one-is) crownPower rootPower n)
 
   pub row-not-over : NotAbove t crownPower rootPower → exactRow N t crownPower rootPower ≼ whole (pos (m .high .0))
   row-not-over n =
       let g = row-gives N t m e in
-      rw (g .is) (row-high N (g .one) (tree-not-over t (g .one) (g .one-is) crownPower rootPower n))
+      rw (g .is) (high-not-over N t (g .one) (g .one-is) crownPower rootPower n)

@@ -1,4 +1,4 @@
--- Laws of the mean: the definition's d is the d of step 2, it is the only one, and it is 70 to 1000 tenths of a cm.
+-- Laws of the mean: the definition's d is the d of step 2, it is the only one, and it is in d's range.
 -- Odd numbers and their squares rise with d, so there is one d at which step 2's first inequality holds for the last time.
 use Prim.Native.Nat.{ℕ, _+_, _-_, _*_, _≤_, _<_}
 use native.Mathlib.Nat.{mul-le-mul, mul-le-mul-right, le-trans, lt-of-lt-of-le, lt-of-not-le, lt-irrefl, not-le-of-lt, le-of-suc-le-suc}
@@ -8,9 +8,11 @@ use mathlib.Core.Bool.{Bool}
 use lib.Dec.{leb}
 use borrow.Author.Tests.{le-leb, lt-leb, leb-true}
 use Rattle.biomass.specs.Whole.{square}
-use Rattle.biomass.specs.Mean.{IsMean, meanOf, mean}
-use Rattle.biomass.specs.Law.Whole.{greatest-is, greatest-passes, le-greatest}
 use Rattle.biomass.specs.Report.{gives}
+use Rattle.biomass.specs.Units.{leastD, greatestD}
+use Rattle.biomass.specs.Law.Whole.{greatest-is, greatest-passes, le-greatest}
+use Rattle.biomass.specs.Limits.{mostMeasured}
+use Rattle.biomass.specs.Mean.{squareScale, IsMean, meanOf, mean}
 use Rattle.biomass.specs.Law.Report.{Inside}
 use Rattle.biomass.specs.Law.Gives.{passed, figure-is}
 
@@ -21,72 +23,72 @@ side-mono n {d} {k} h =
     mul-le-mul-right n (mul-le-mul odd odd)
 
 -- a diameter at which the first inequality holds, and at the next no more, is the mean
-pub mean-between : (n S d : ℕ) → d ≤ 1000 → square (2 * d - 1) * n ≤ 400 * S → 400 * S < square (2 * (d + 1) - 1) * n → meanOf n S ≡ d
+pub mean-between : (n S d : ℕ) → d ≤ greatestD → square (2 * d - 1) * n ≤ squareScale * S → squareScale * S < square (2 * (d + 1) - 1) * n → meanOf n S ≡ d
 unfolding meanOf
 mean-between n S d top le lt =
-    greatest-is (λ k. leb (square (2 * k - 1) * n) (400 * S)) 1000 d top (le-leb _ _ le)
+    greatest-is (λ k. leb (square (2 * k - 1) * n) (squareScale * S)) greatestD d top (le-leb _ _ le)
     (λ k above up. lt-leb _ _ (lt-of-lt-of-le lt (side-mono n (omega arith))))
 
--- "S 49n to 10000n": the first inequality holds at 70, and at 1001 no more
-pub at-least-70 : (n S : ℕ) → 49 * n ≤ S → square (2 * 70 - 1) * n ≤ 400 * S
-at-least-70 n S h = omega arith
+-- "S 49n to 10000n": the first inequality holds at the least d, and past the greatest no more
+pub holds-at-least : (n S : ℕ) → 49 * n ≤ S → square (2 * leastD - 1) * n ≤ squareScale * S
+holds-at-least n S h = omega arith
 
-pub at-most-1000 : (n S : ℕ) → 1 ≤ n → S ≤ 10000 * n → 400 * S < square (2 * 1001 - 1) * n
-at-most-1000 n S one h = omega arith
+pub fails-past-greatest : (n S : ℕ) → 1 ≤ n → S ≤ 10000 * n → squareScale * S < square (2 * (greatestD + 1) - 1) * n
+fails-past-greatest n S one h = omega arith
 
 -- 2(d + 1) − 1 is 2d + 1
 next-odd : (d : ℕ) → 2 * (d + 1) - 1 ≡ 2 * d + 1
 next-odd d = omega arith
 
-module _ (n S : ℕ) (trees : Inside 1 n 1000000) (squares : Inside (49 * n) S (10000 * n)) where
+module _ (n S : ℕ) (trees : Inside 1 n mostMeasured) (squares : Inside (49 * n) S (10000 * n)) where
   passes : ℕ → Bool
-  passes d = leb (square (2 * d - 1) * n) (400 * S)
+  passes d = leb (square (2 * d - 1) * n) (squareScale * S)
 
   -- the first inequality holds at the definition's d
-  holds : square (2 * meanOf n S - 1) * n ≤ 400 * S
+  holds : square (2 * meanOf n S - 1) * n ≤ squareScale * S
   unfolding meanOf passes
-  holds = leb-true _ _ (greatest-passes passes 1000 (le-leb (0 * n) (400 * S) (omega arith)))
+  holds = leb-true _ _ (greatest-passes passes greatestD (le-leb (0 * n) (squareScale * S) (omega arith)))
 
-  from-70 : 70 ≤ meanOf n S
+  from-least : leastD ≤ meanOf n S
   unfolding meanOf passes
-  from-70 = le-greatest passes 1000 70 (omega arith) (le-leb _ _ (at-least-70 n S (squares .least)))
+  from-least = le-greatest passes greatestD leastD (omega arith) (le-leb _ _ (holds-at-least n S (squares .least)))
 
-  -- no d at which it holds is above 1000, nor above the definition's d
-  to-1000 : (d : ℕ) → square (2 * d - 1) * n ≤ 400 * S → d ≤ 1000
-  to-1000 d le =
-      le-of-suc-le-suc (lt-of-not-le (λ (above : 1001 ≤ d). not-le-of-lt (at-most-1000 n S (trees .least) (squares .most)) (le-trans (side-mono n above) le)))
+  -- no d at which it holds is above the greatest, nor above the definition's d
+  to-greatest : (d : ℕ) → square (2 * d - 1) * n ≤ squareScale * S → d ≤ greatestD
+  to-greatest d le =
+      le-of-suc-le-suc (lt-of-not-le (λ (above : greatestD + 1 ≤ d). not-le-of-lt (fails-past-greatest n S (trees .least) (squares .most)) (le-trans (side-mono n above) le)))
 
-  is-greatest : (d : ℕ) → square (2 * d - 1) * n ≤ 400 * S → d ≤ meanOf n S
+  is-greatest : (d : ℕ) → square (2 * d - 1) * n ≤ squareScale * S → d ≤ meanOf n S
   unfolding meanOf passes
-  is-greatest d le = le-greatest passes 1000 d (to-1000 d le) (le-leb _ _ le)
+  is-greatest d le = le-greatest passes greatestD d (to-greatest d le) (le-leb _ _ le)
 
-  -- the definition's d is the mean of step 2, and lies in 70 to 1000
+  -- the definition's d is the mean of step 2, and lies in d's range
   pub mean-is : IsMean n S (meanOf n S)
   mean-is =
       record {
-        whole = omega (arith, from-70);
+        whole = omega (arith, from-least);
         not-above = holds;
         below = lt-of-not-le (λ le. lt-irrefl (meanOf n S) (omega (arith, is-greatest (meanOf n S + 1) (rw next-odd le))));
       }
 
-  pub mean-range : Inside 70 (meanOf n S) 1000
-  mean-range = record { least = from-70; most = to-1000 (meanOf n S) holds }
+  pub mean-range : Inside leastD (meanOf n S) greatestD
+  mean-range = record { least = from-least; most = to-greatest (meanOf n S) holds }
 
   -- and no other number is
   pub mean-only : (d : ℕ) → IsMean n S d → d ≡ meanOf n S
-  mean-only d is = sym (mean-between n S d (to-1000 d (is .not-above)) (is .not-above) (rw next-odd (is .below)))
+  mean-only d is = sym (mean-between n S d (to-greatest d (is .not-above)) (is .not-above) (rw next-odd (is .below)))
 
--- what the layer above is given: a mean that is given is step 2's, and is 70 to 1000
+-- what the layer above is given: a mean that is given is step 2's, and is in d's range
 pub record MeanGives (n S d : ℕ) : Type 0 where
-  pub trees : Inside 1 n 1000000
+  pub trees : Inside 1 n mostMeasured
   pub squares : Inside (49 * n) S (10000 * n)
   pub is : IsMean n S d
-  pub range : Inside 70 d 1000
+  pub range : Inside leastD d greatestD
 
 pub mean-gives : (n S d : ℕ) → mean n S ≡ gives d → MeanGives n S d
 unfolding mean
 mean-gives n S d e =
-    let t = passed 1 n 1000000 6 _ e in
+    let t = passed 1 n mostMeasured 6 _ e in
     let s = passed (49 * n) S (10000 * n) 6 (gives (meanOf n S)) (t .next) in
     subst (λ (m : ℕ). MeanGives n S m) (figure-is (s .next)) (record {
       trees = t .in-range;

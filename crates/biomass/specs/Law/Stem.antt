@@ -10,21 +10,26 @@ use mathlib.Core.Path.{_≡_, refl, ap, _∙_}
 use lib.Dec.{leb·zero}
 use lib.IntN.{pos, negsuc, _+ℤ_, _*ℤ_}
 use Rattle.biomass.specs.Whole.{_div_}
-use Rattle.biomass.specs.Stem.{G, A, z, VL, VH, stemEnds}
+use Rattle.biomass.specs.Units.{leastD, greatestD}
+use Rattle.biomass.specs.Stem.{areaScale, G, A, z, VL, VH, stemEnds}
 use Rattle.biomass.specs.Law.Ends.{Bounded}
 use Rattle.biomass.specs.Law.Signed.{parts, add, mul, same, pos-minus, pos-minus-more}
 
--- l and h are VL and VH, which in range are above 0, and h is not above the greatest VH
+-- the greatest VH
+abbrev pub greatestVolume : ℕ
+greatestVolume = 1228217028537058651
+
+-- l and h are VL and VH, which in range are above 0, and h is not above the greatest
 pub record Volumes (T d l h : ℕ) : Type 0 where
   pub low : VL T d ≡ pos l
   pub high : VH T d ≡ pos h
-  pub most : h ≤ 1228217028537058651
+  pub most : h ≤ greatestVolume
 
 -- ---- step 4's numbers as naturals
 
 -- "d 70 to 1000; T 1 to 50"
 abbrev pub InRange : ℕ → ℕ → Type 0
-InRange T d = (1 ≤ T) × (T ≤ 50) × (70 ≤ d) × (d ≤ 1000)
+InRange T d = (1 ≤ T) × (T ≤ 50) × (leastD ≤ d) × (d ≤ greatestD)
 
 -- A's numerator, A and B
 abbrev pub steep : ℕ → ℕ
@@ -108,10 +113,10 @@ abbrev pub circle : ℕ → ℕ
 circle d = 314159265 * (d * d)
 
 abbrev pub D : ℕ
-D = 10 ^ 10 * 400000
+D = 10 ^ 10 * areaScale
 
 abbrev pub K : ℕ
-K = 118288000 * 400000
+K = 118288000 * areaScale
 
 -- VL and VH in range: near each other, V not under VL, V not over VH
 pub record Enclosing (T d : ℕ) : Type 0 where
@@ -130,13 +135,13 @@ module _ (T d : ℕ) (r : InRange T d) where
   slope-high : steep T ≤ (slope T + 1) * 10 ^ 10
   slope-high = omega arith
 
-  -- z ≥ 0: VH − VL is A + z + 1. x over 400000 is the exact z
+  -- z ≥ 0: VH − VL is A + z + 1. x over areaScale is the exact z
   enclosing-over : 118288000 ≤ G d → Enclosing T d
   enclosing-over k =
       let x = circle d - K in
       let x-is : circle d ≡ K + x = omega arith in
-      let x-low : over d * 400000 ≤ x = omega arith in
-      let x-high : x ≤ (over d + 1) * 400000 = omega arith in
+      let x-low : over d * areaScale ≤ x = omega arith in
+      let x-high : x ≤ (over d + 1) * areaScale = omega arith in
       record {
         l = base T + slope T * over d;
         h = base T + (slope T + 1) * (over d + 1);
@@ -147,7 +152,7 @@ module _ (T d : ℕ) (r : InRange T d) where
         not-over = omega (arith, mul-le-mul slope-high x-high, ap (λ y. steep T * y) x-is);
       }
 
-  -- z < 0: VH − VL is A − z. x over 400000 is the exact −z, so the greater slope gives the low
+  -- z < 0: VH − VL is A − z. x over areaScale is the exact −z, so the greater slope gives the low
   near-under :
       G d < 118288000 →
       (base T - (slope T + 1) * under d ≤ base T - slope T * (under d - 1))
@@ -160,8 +165,8 @@ module _ (T d : ℕ) (r : InRange T d) where
   enclosing-under k =
       let x = K - circle d in
       let x-is : K ≡ circle d + x = omega arith in
-      let x-low : (under d - 1) * 400000 ≤ x = omega arith in
-      let x-high : x ≤ under d * 400000 = omega arith in
+      let x-low : (under d - 1) * areaScale ≤ x = omega arith in
+      let x-high : x ≤ under d * areaScale = omega arith in
       record {
         l = base T - (slope T + 1) * under d;
         h = base T - slope T * (under d - 1);
@@ -197,15 +202,19 @@ pub weighed : {v f s : ℕ} → v ≤ 2 ^ 64 / 10 ^ 8 → f ≤ 200 → s ≤ 10
 weighed v-most f-most s-most =
     record { by-factor = mul-le-mul v-most f-most; by-gravity = mul-le-mul (mul-le-mul v-most f-most) s-most }
 
+-- the high of the greatest volume, at the greatest factor and gravity
+abbrev pub greatestStem : ℕ
+greatestStem = stemHigh greatestVolume 200 100
+
 -- H is at most L + 24, so that the two quotients by 10000 are at most 24·2 apart
-pub stem-bounded : (T d f s : ℕ) → 1 ≤ T → T ≤ 50 → 70 ≤ d → d ≤ 1000 → f ≤ 200 → s ≤ 100 → Bounded (stemEnds T d f s) 50 24564340573
+pub stem-bounded : (T d f s : ℕ) → 1 ≤ T → T ≤ 50 → leastD ≤ d → d ≤ greatestD → f ≤ 200 → s ≤ 100 → Bounded (stemEnds T d f s) 50 greatestStem
 stem-bounded T d f s T-least T-most d-least d-most f-most s-most =
     let v = enclosing T d (T-least, T-most, d-least, d-most) in
     let L = v .l / 10 ^ 8 in
     let H = v .h / 10 ^ 8 + 1 in
     let ordered : L ≤ H = omega (arith, v .ordered) in
     let near : H ≤ L + 24 = omega (arith, v .near) in
-    let small : H ≤ 12282170286 = omega (arith, v .ends .most) in
+    let small : H ≤ greatestVolume / 10 ^ 8 + 1 = omega (arith, v .ends .most) in
     rw (stem-ends (v .ends) f s)
     (record {
       low-whole = refl;

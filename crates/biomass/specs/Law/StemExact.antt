@@ -6,7 +6,8 @@ use native.Mathlib.Nat.{mul-le-mul-right}
 use native.Mathlib.Omega.{arith}
 use mathlib.Core.Path.{_≡_}
 use lib.IntN.{pos, subℕ}
-use Rattle.biomass.specs.Stem.{stemEnds}
+use Rattle.biomass.specs.Units.{leastD, greatestD}
+use Rattle.biomass.specs.Stem.{areaScale, stemEnds}
 use Rattle.biomass.specs.Fraction.{Fraction, whole, _⊕_, _⊖_, _⊗_, _over_, _≼_}
 use Rattle.biomass.specs.Exact.{exactStem}
 use Rattle.biomass.specs.Law.Signed.{parts, diff, same, add, sub, mul, times, le-from, pos-minus}
@@ -15,7 +16,7 @@ use Rattle.biomass.specs.Law.Stem.{base, steep, circle, D, K, enclosing,
 -- the exact stem from B, A's numerator a and the area's numerator g
 abbrev stemFraction : (b a g f s : ℕ) → Fraction
 stemFraction b a g f s =
-    (whole (pos b) ⊕ whole (pos a) over 10 ^ 10 ⊗ (whole (pos g) over 400000 ⊖ whole (pos 118288000))) over 10 ^ 8
+    (whole (pos b) ⊕ whole (pos a) over 10 ^ 10 ⊗ (whole (pos g) over areaScale ⊖ whole (pos 118288000))) over 10 ^ 8
     ⊗ whole (pos f)
     ⊗ whole (pos s) over 10000
 
@@ -53,14 +54,14 @@ module _ (b a g f s : ℕ) where
       let parts-weighed = mul-le-mul-right (f * s) parts-reach in
       record { cross = rw numerator (le-from (times (diff (more b a g f s) (less a f s)) 1) (parts (pos _)) (omega arith)) }
 
-pub stem-not-under : (T d f s : ℕ) → 1 ≤ T → T ≤ 50 → 70 ≤ d → d ≤ 1000 → whole (stemEnds T d f s .low) ≼ exactStem T d f s
+pub stem-not-under : (T d f s : ℕ) → 1 ≤ T → T ≤ 50 → leastD ≤ d → d ≤ greatestD → whole (stemEnds T d f s .low) ≼ exactStem T d f s
 stem-not-under T d f s T-least T-most d-least d-most =
     let v = enclosing T d (T-least, T-most, d-least, d-most) in
     let L = v .l / 10 ^ 8 in
     rw (stem-ends (v .ends) f s, exact-is T d f s T-least)
     (not-under (base T) (steep T) (circle d) f s (v .l) L (L * f * s / 10000) (omega arith) (omega arith) (v .not-under))
 
-pub stem-not-over : (T d f s : ℕ) → 1 ≤ T → T ≤ 50 → 70 ≤ d → d ≤ 1000 → exactStem T d f s ≼ whole (stemEnds T d f s .high)
+pub stem-not-over : (T d f s : ℕ) → 1 ≤ T → T ≤ 50 → leastD ≤ d → d ≤ greatestD → exactStem T d f s ≼ whole (stemEnds T d f s .high)
 stem-not-over T d f s T-least T-most d-least d-most =
     let v = enclosing T d (T-least, T-most, d-least, d-most) in
     let H = v .h / 10 ^ 8 + 1 in

@@ -9,8 +9,9 @@ use lib.Dec.{T}
 use lib.IntN.{ℤ, pos, negsuc, natAbs}
 use lib.Signed.{ltZ, nonNeg}
 use borrow.Author.Tests.{ltb-true, ltb-false, le-leb, lt-leb}
-use Rattle.biomass.specs.Report.{refused, gives}
 use Rattle.biomass.specs.Whole.{_div_}
+use Rattle.biomass.specs.Report.{refused, gives}
+use Rattle.biomass.specs.Limits.{mostHeights}
 use Rattle.biomass.specs.Tariff.{tariffSum, fromOneToFifty, singleTariff, lineTariff}
 use Rattle.biomass.specs.Law.Report.{Inside}
 use Rattle.biomass.specs.Law.Gives.{passed, figure-is, never}
@@ -51,7 +52,7 @@ single-tariff-range c1 c2 c3 c4 D h t e =
 pub line-tariff-range : (sum number T : ℕ) → lineTariff sum number ≡ gives T → Inside 1 T 50
 unfolding lineTariff
 line-tariff-range sum number T e =
-    let n = passed 1 number 1000 6 _ e in
+    let n = passed 1 number mostHeights 6 _ e in
     let s = passed number sum (50 * number) 6 (gives (sum / number)) (n .next) in
     subst (λ (m : ℕ). Inside 1 m 50) (figure-is (s .next)) (record {
       least = le-div-iff-mul-le (n .in-range .least) .1 (rw one-mul (s .in-range .least));

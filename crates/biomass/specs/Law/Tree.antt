@@ -1,20 +1,22 @@
 -- Laws of one tree and one row that are answered: their operands are in range, and their ends are near each other and fit 64 bits.
-use Prim.Native.Nat.{ℕ, zero, suc, _+_, _*_, _≤_}
+use Prim.Native.Nat.{ℕ, zero, suc, _+_, _*_, _/_, _≤_}
 use native.Mathlib.Nat.{mul-le-mul, mul-le-mul-left}
 use native.Mathlib.Omega.{arith}
 use mathlib.Core.Path.{_≡_, sym, subst}
 use lib.Dec.{eqb·suc-zero}
 use Rattle.biomass.specs.Report.{gives}
+use Rattle.biomass.specs.Units.{leastD, greatestD}
+use Rattle.biomass.specs.Limits.{mostEstimated}
 use Rattle.biomass.specs.Stem.{stem, stemEnds}
 use Rattle.biomass.specs.Crown.{crown, crownEnds}
 use Rattle.biomass.specs.Root.{root, rootEnds}
-use Rattle.biomass.specs.Tree.{treeOf, tree, row, rowOf}
+use Rattle.biomass.specs.Tree.{treeOf, tree, row, rowHigh, rowOf}
 use Rattle.biomass.specs.Law.Report.{Inside}
 use Rattle.biomass.specs.Law.Gives.{passed, made}
 use Rattle.biomass.specs.Law.Ends.{Bounded}
-use Rattle.biomass.specs.Law.Stem.{stem-bounded}
-use Rattle.biomass.specs.Law.Crown.{crown-bounded}
-use Rattle.biomass.specs.Law.Root.{root-bounded}
+use Rattle.biomass.specs.Law.Stem.{greatestStem, stem-bounded}
+use Rattle.biomass.specs.Law.Crown.{greatestCrown, crown-bounded}
+use Rattle.biomass.specs.Law.Root.{greatestRoot, root-bounded}
 use Rattle.biomass.specs.declared.units.BiomassRange.{BiomassRange}
 use Rattle.biomass.specs.declared.tree.AverageTree.{AverageTree}
 
@@ -23,7 +25,7 @@ use Rattle.biomass.specs.declared.tree.AverageTree.{AverageTree}
 -- All that a tree is worked from, in its ranges
 pub record Operands (t : AverageTree) : Type 0 where
   pub tariff : Inside 1 (t .tariff) 50
-  pub d : Inside 70 (t .d) 1000
+  pub d : Inside leastD (t .d) greatestD
   pub factor : Inside 100 (t .factor) 200
   pub gravity : Inside 1 (t .gravity) 100
   pub crown : Inside 0 (t .crown) 7
@@ -41,13 +43,13 @@ tree-gives t m e =
     let on-crown = made (crown (t .crown) (t .d)) _ (on-stem .next) in
     let on-root = made (root (t .root) (t .d)) _ (on-crown .next) in
     let tariff = passed 1 (t .tariff) 50 6 _ (on-stem .gave) in
-    let d = passed 70 (t .d) 1000 6 _ (tariff .next) in
+    let d = passed leastD (t .d) greatestD 6 _ (tariff .next) in
     let factor = passed 100 (t .factor) 200 6 _ (d .next) in
     let gravity = passed 1 (t .gravity) 100 6 _ (factor .next) in
     let crown-group = passed 0 (t .crown) 7 6 _ (on-crown .gave) in
-    let crown-d = passed 70 (t .d) 1000 6 _ (crown-group .next) in
+    let crown-d = passed leastD (t .d) greatestD 6 _ (crown-group .next) in
     let root-group = passed 0 (t .root) 5 6 _ (on-root .gave) in
-    let root-d = passed 70 (t .d) 1000 6 _ (root-group .next) in
+    let root-d = passed leastD (t .d) greatestD 6 _ (root-group .next) in
     record {
       operands =
           record {
@@ -63,9 +65,9 @@ tree-gives t m e =
 
 -- So the ends of its parts are bounded
 pub record PartsBounded (t : AverageTree) : Type 0 where
-  pub on-stem : Bounded (stemEnds (t .tariff) (t .d) (t .factor) (t .gravity)) 50 24564340573
-  pub on-crown : Bounded (crownEnds (t .crown) (t .d)) 2 1066789553
-  pub on-root : Bounded (rootEnds (t .root) (t .d)) 2 781057097
+  pub on-stem : Bounded (stemEnds (t .tariff) (t .d) (t .factor) (t .gravity)) 50 greatestStem
+  pub on-crown : Bounded (crownEnds (t .crown) (t .d)) 2 greatestCrown
+  pub on-root : Bounded (rootEnds (t .root) (t .d)) 2 greatestRoot
 
 pub parts-bounded : {t : AverageTree} → Operands t → PartsBounded t
 parts-bounded {t} g =
@@ -77,11 +79,15 @@ parts-bounded {t} g =
       on-root = root-bounded (t .root) (t .d) (g .root .most) (g .d .most);
     }
 
+-- The greatest highs of the three parts added, in mg
+abbrev pub greatestTree : ℕ
+greatestTree = greatestStem + greatestCrown + greatestRoot
+
 -- The stem's ends are at most 50 mg apart, the crown's and the root's 2 each
 pub record TreeBounds (m : BiomassRange) : Type 0 where
   pub ordered : m .low .0 ≤ m .high .0
   pub near : m .high .0 ≤ m .low .0 + 54
-  pub small : m .high .0 ≤ 26412187223
+  pub small : m .high .0 ≤ greatestTree
 
 pub tree-bounds : (t : AverageTree) (m : BiomassRange) → tree t ≡ gives m → TreeBounds m
 tree-bounds t m e =
@@ -93,7 +99,7 @@ tree-bounds t m e =
 
 -- The number of trees is in its range, and the row is made of what one tree gives
 pub record RowGives (N : ℕ) (t : AverageTree) (m : BiomassRange) : Type 0 where
-  pub number : Inside 0 N 100000000
+  pub number : Inside 0 N mostEstimated
   pub one : BiomassRange
   pub one-is : tree t ≡ gives one
   pub is : m ≡ rowOf N one
@@ -101,24 +107,33 @@ pub record RowGives (N : ℕ) (t : AverageTree) (m : BiomassRange) : Type 0 wher
 pub row-gives : (N : ℕ) (t : AverageTree) (m : BiomassRange) → row N t ≡ gives m → RowGives N t m
 unfolding row
 row-gives N t m e =
-    let number = passed 0 N 100000000 6 _ e in
+    let number = passed 0 N mostEstimated 6 _ e in
     let on-tree = made (tree t) _ (number .next) in
     record { number = number .in-range; one = on-tree .figure; one-is = on-tree .gave; is = cc }
+
+-- The high of the greatest number of the greatest tree, in mg
+abbrev pub greatestRow : ℕ
+greatestRow = mostEstimated * greatestTree / 100 + 1
+
+-- A row's high, whatever number of trees its low is worked from
+pub high-small : (N : ℕ) (one : BiomassRange) → N ≤ mostEstimated → one .high .0 ≤ greatestTree → rowHigh N one ≤ greatestRow
+high-small zero one h k = omega arith
+high-small (suc n) one h k = rw (eqb·suc-zero n) (omega (arith, mul-le-mul h k))
 
 -- N hundredths of a tree's ends: 54 mg for each tree apart, and 2 mg for the two divisions
 pub record RowBounds (N : ℕ) (m : BiomassRange) : Type 0 where
   pub ordered : m .low .0 ≤ m .high .0
   pub near : 100 * m .high .0 ≤ 100 * m .low .0 + 54 * N + 200
-  pub small : m .high .0 ≤ 26412187223000001
+  pub small : m .high .0 ≤ greatestRow
   pub low-of-none : N ≡ 0 → m .low .0 ≡ 0
   pub high-of-none : N ≡ 0 → m .high .0 ≡ 0
 
-of-tree : (N : ℕ) (one : BiomassRange) → N ≤ 100000000 → TreeBounds one → RowBounds N (rowOf N one)
+of-tree : (N : ℕ) (one : BiomassRange) → N ≤ mostEstimated → TreeBounds one → RowBounds N (rowOf N one)
 of-tree zero one h b = omega arith
 of-tree (suc n) one h b =
     let ordered : suc n * one .low .0 ≤ suc n * one .high .0 = mul-le-mul-left (suc n) (b .ordered) in
     let near : suc n * one .high .0 ≤ suc n * (one .low .0 + 54) = mul-le-mul-left (suc n) (b .near) in
-    let small : suc n * one .high .0 ≤ 100000000 * 26412187223 = mul-le-mul h (b .small) in
+    let small = rw (eqb·suc-zero n) at (high-small (suc n) one h (b .small)) in
     rw (eqb·suc-zero n) (omega arith)
 
 pub row-bounds : (N : ℕ) (t : AverageTree) (m : BiomassRange) → row N t ≡ gives m → RowBounds N m

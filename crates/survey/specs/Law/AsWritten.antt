@@ -9,6 +9,7 @@ use lib.Dec.{leb, eqb}
 use borrow.Author.Tests.{leb-true, leb-false, le-leb, lt-leb, eqb-false}
 use Rattle.biomass.specs.Whole.{inside}
 use Rattle.biomass.specs.Report.{Report, gives, unless, _then_}
+use Rattle.biomass.specs.Limits.{mostMeasured, mostHeights, mostEstimated}
 use Rattle.biomass.specs.Tariff.{lineTariff}
 use Rattle.biomass.specs.Mean.{mean}
 use Rattle.biomass.specs.Trees.{trees}
@@ -21,7 +22,7 @@ use Rattle.biomass.specs.Law.Answers.{mean-answers, trees-answers, line-tariff-
 use Rattle.survey.specs.Line.{tallied, withTrees, withHeight, tariffOf, T-of, d-of, N-of, wholeCm, noTrees, estimatedRow, emptyRow}
 use Rattle.survey.specs.Survey.{mostLines, withLine, withRow, measure, giveHeight, f-of, treeAt, someTrees, estimate, closingRow, close}
 use Rattle.survey.specs.AsWritten.{asWritten}
-use Rattle.survey.specs.Apply.{measured, height, worked, lineRow, applyMeasured, applyHeight, kept, applyClose, apply}
+use Rattle.survey.specs.Apply.{mostSquares, mostTariffs, measured, height, worked, lineRow, applyMeasured, applyHeight, kept, applyClose, apply}
 use Rattle.survey.specs.Valid.{ValidSpecies, ValidTally, ValidHeights, Valid}
 use Rattle.survey.specs.Law.Checks.{when-same, unless-same, when-then, unless-then, cond-then, then-then, answered-then}
 use Rattle.survey.specs.declared.command.Command.{Command}
@@ -34,7 +35,7 @@ use Rattle.survey.specs.declared.survey.Survey.{Survey}
 -- ---- measured trees and height trees
 
 -- each tree measured adds from 7² to 100² to S
-pub tallied-valid : (t : Tally) (class count : ℕ) → ValidTally t → Inside 7 class 100 → t .n + count ≤ 1000000 → ValidTally (tallied class count t)
+pub tallied-valid : (t : Tally) (class count : ℕ) → ValidTally t → Inside 7 class 100 → t .n + count ≤ mostMeasured → ValidTally (tallied class count t)
 tallied-valid t class count before in-class few =
     let least : count * (7 * 7) ≤ count * (class * class) = mul-le-mul-left count (mul-le-mul (in-class .least) (in-class .least)) in
     let most : count * (class * class) ≤ count * (100 * 100) = mul-le-mul-left count (mul-le-mul (in-class .most) (in-class .most)) in
@@ -50,13 +51,13 @@ measured-as-written class count s v =
     unless-same (s .active) 10 _ _ (λ is-open.
     unless-then f (inside 7 class 100) 6 _ _ (λ in-class.
     unless-then f (leb 1 count) 6 _ _ (λ some.
-    unless-then f (leb (t .n + count) 1000000) 11 _ _ (λ few.
+    unless-then f (leb (t .n + count) mostMeasured) 11 _ _ (λ few.
     let after = tallied-valid t class count (v .line is-open .tally) (inside-true 7 class 100 in-class) (leb-true _ _ few) in
-    let fit : t .squares + count * (class * class) ≤ 10000000000 = omega (arith, after .few, after .squares) in
+    let fit : t .squares + count * (class * class) ≤ mostSquares = omega (arith, after .few, after .squares) in
     ap (λ (test : Bool). unless test 6 (gives (withTrees class count l)) then f) (le-leb _ _ fit))))))
 
 -- each height tree adds from 1 to 50 to the tariffs
-pub height-added : (h : Heights) (T : ℕ) → ValidHeights h → Inside 1 T 50 → h .number < 1000
+pub height-added : (h : Heights) (T : ℕ) → ValidHeights h → Inside 1 T 50 → h .number < mostHeights
     → ValidHeights (record { number = h .number + 1; tariffs = h .tariffs + T })
 height-added h T before T-range room = record { few = omega arith; tariffs = omega (arith, before .tariffs) }
 
@@ -70,10 +71,10 @@ height-as-written cm tenths s v =
     when-same (s .ended) 5 _ _ (λ not-ended.
     unless-same (s .active) 10 _ _ (λ is-open.
     then-then f (tariffOf c cm tenths) _ _ (λ T gave.
-    when-then f (leb 1000 (h .number)) 11 _ _ (λ below.
+    when-then f (leb mostHeights (h .number)) 11 _ _ (λ below.
     let T-range = single-tariff-range (c .c1) (c .c2) (c .c3) (c .c4) cm tenths T gave in
-    let after = height-added h T (v .line is-open .heights) T-range (leb-false 1000 (h .number) below) in
-    let fit : h .tariffs + T ≤ 50000 = omega (arith, after .few, after .tariffs) in
+    let after = height-added h T (v .line is-open .heights) T-range (leb-false mostHeights (h .number) below) in
+    let fit : h .tariffs + T ≤ mostTariffs = omega (arith, after .few, after .tariffs) in
     ap (λ (test : Bool). unless test 6 (gives (withHeight T l)) then f) (le-leb _ _ fit)))))
 
 -- ---- what is estimated of a line, by whether it has measured trees
@@ -130,14 +131,14 @@ close-as-written s v =
     let vl = v .line is-open in
     let room = v .room is-open in
     cond-then keep (eqb (t .n) 0) _ _ _ _ (λ none. row-kept s room (row-of-none s none)) (λ some.
-    let n : Inside 1 (t .n) 1000000 = record { least = not-zero (t .n) some; most = vl .tally .few } in
+    let n : Inside 1 (t .n) mostMeasured = record { least = not-zero (t .n) some; most = vl .tally .few } in
     when-then keep (eqb (h .number) 0) 12 _ _ (λ some-heights.
-    let heights : Inside 1 (h .number) 1000 = record { least = not-zero (h .number) some-heights; most = vl .heights .few } in
+    let heights : Inside 1 (h .number) mostHeights = record { least = not-zero (h .number) some-heights; most = vl .heights .few } in
     answered-then keep (mean (t .n) (t .squares)) _ (mean-answers (t .n) (t .squares) n (vl .tally .squares))
     (when-then keep (eqb (f-of s) 0) 14 _ _ (λ given.
     answered-then keep (trees (t .n) (l .p) (l .q)) _
     (trees-answers (t .n) (l .p) (l .q) (record { least = zero-le; most = vl .tally .few }) (vl .p) (vl .q))
-    (unless-then keep (leb (N-of l) 100000000) 15 _ _ (λ small.
+    (unless-then keep (leb (N-of l) mostEstimated) 15 _ _ (λ small.
     answered-then keep (lineTariff (h .tariffs) (h .number)) _ (line-tariff-answers (h .tariffs) (h .number) heights (vl .heights .tariffs))
     (answered-then keep (row (N-of l) (treeAt s)) _
     (row-answers (N-of l) (treeAt s) (record { least = zero-le; most = leb-true _ _ small })

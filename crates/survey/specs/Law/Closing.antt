@@ -7,6 +7,7 @@ use mathlib.Core.Bool.{true, false}
 use lib.Dec.{leb, eqb}
 use borrow.Author.Tests.{leb-true}
 use Rattle.biomass.specs.Report.{gives}
+use Rattle.biomass.specs.Limits.{mostEstimated}
 use Rattle.biomass.specs.Tree.{treeOf, row, rowOf}
 use Rattle.biomass.specs.Law.Gives.{figure-is}
 use Rattle.biomass.specs.Law.Tree.{row-bounds}
@@ -45,11 +46,11 @@ module _ (s : Survey) (v : Valid s) (is-open : s .active ≡ true) where
       })
 
   some-worked : eqb (s .line .tally .n) 0 ≡ false → eqb (s .line .heights .number) 0 ≡ false → eqb (f-of s) 0 ≡ false
-      → leb (N-of (s .line)) 100000000 ≡ true → Worked (s .line) (estimate s)
+      → leb (N-of (s .line)) mostEstimated ≡ true → Worked (s .line) (estimate s)
   some-worked some heights factor small =
       let l = s .line in
       let operands = line-operands s v is-open (not-zero (l .tally .n) some) (not-zero (l .heights .number) heights) (not-zero (f-of s) factor) in
-      let few : N-of l ≤ 100000000 = leb-true (N-of l) 100000000 small in
+      let few : N-of l ≤ mostEstimated = leb-true (N-of l) mostEstimated small in
       let answered = row-answers (N-of l) (treeAt s) (record { least = zero-le; most = few }) operands in
       subst (Worked l) (sym (estimate-by s some)) (record {
         within =
@@ -76,7 +77,7 @@ text-closes s t v e =
     (λ some rest.
     let heights = when-gives (eqb (s .line .heights .number) 0) 12 _ rest in
     let factor = when-gives (eqb (f-of s) 0) 14 _ (heights .next) in
-    let small = unless-gives (leb (N-of (s .line)) 100000000) 15 _ (factor .next) in
+    let small = unless-gives (leb (N-of (s .line)) mostEstimated) 15 _ (factor .next) in
     closes (some-worked s v is-open some (heights .test-is) (factor .test-is) (small .test-is)) (small .next))
 
 pub closes-to : (s t : Survey) → Valid s → apply Command.Close s ≡ gives t → ClosesTo s t

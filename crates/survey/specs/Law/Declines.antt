@@ -8,6 +8,7 @@ use lib.Dec.{leb, ltb, eqb}
 use borrow.Author.Tests.{leb-true, leb-false}
 use Rattle.biomass.specs.Whole.{inside}
 use Rattle.biomass.specs.Report.{gives}
+use Rattle.biomass.specs.Limits.{mostMeasured, mostHeights, mostEstimated, greatestArea}
 use Rattle.biomass.specs.Tariff.{lineTariff}
 use Rattle.biomass.specs.Mean.{mean}
 use Rattle.biomass.specs.Trees.{trees}
@@ -15,7 +16,7 @@ use Rattle.biomass.specs.Tree.{row}
 use Rattle.biomass.specs.Law.Declines.{Declines, gives-declines, unless-declines, then-declines, six-declines, six-or-thirteen-declines, single-tariff-declines, line-tariff-declines, mean-declines, trees-declines, row-declines}
 use Rattle.survey.specs.Line.{begun, withTrees, withHeight, tariffOf, factorAt, factorFor, treeWith, rowWith, emptyRow}
 use Rattle.survey.specs.Survey.{mostLines, speciesAt, withSpecies, withFactor, withOpened, withLine, withRow, withEnd, speciesInRange, declared, declare, giveFactor, opened, openLine, finish}
-use Rattle.survey.specs.Apply.{measured, height, worked, lineRow, applyMeasured, applyHeight, kept, applyClose}
+use Rattle.survey.specs.Apply.{mostSquares, mostTariffs, measured, height, worked, lineRow, applyMeasured, applyHeight, kept, applyClose}
 use Rattle.survey.specs.Law.Checks.{when-declines, cond-declines}
 use Rattle.survey.specs.declared.command.Species.{Species}
 use Rattle.survey.specs.declared.line.Line.{Line}
@@ -44,15 +45,15 @@ module _ (such : ℕ → Type 0) where
   unfolding openLine
   open-declines stratum id p q s five six nine eight seven eleven =
       when-declines such (s .ended) 5 _ (λ ended. five) (λ not-ended.
-      unless-declines such (inside 1 p 100000000) 6 _ (λ out. six) (λ in-p.
-      unless-declines such (inside 1 q 100000000) 6 _ (λ out. six) (λ in-q.
+      unless-declines such (inside 1 p greatestArea) 6 _ (λ out. six) (λ in-p.
+      unless-declines such (inside 1 q greatestArea) 6 _ (λ out. six) (λ in-q.
       when-declines such (s .active) 9 _ (λ is-open. nine) (λ none-open.
       unless-declines such (declared id s) 8 _ (λ undeclared. eight) (λ is-declared.
       when-declines such (opened stratum id s) 7 _ (λ again. seven) (λ first.
       when-declines such (leb mostLines (s .closed)) 11 _ (λ full. eleven (leb-true mostLines (s .closed) full)) (λ room.
       gives-declines such (withOpened s (begun stratum id (speciesAt s id) p q)))))))))
 
-  pub measure-declines : (class count : ℕ) (s : Survey) → such 5 → such 10 → such 6 → (1000000 < s .line .tally .n + count → such 11) →
+  pub measure-declines : (class count : ℕ) (s : Survey) → such 5 → such 10 → such 6 → (mostMeasured < s .line .tally .n + count → such 11) →
       Declines such (applyMeasured class count s)
   unfolding applyMeasured measured
   measure-declines class count s five ten six eleven =
@@ -62,12 +63,12 @@ module _ (such : ℕ → Type 0) where
       then-declines such (measured class count l) _
       (unless-declines such (inside 7 class 100) 6 _ (λ out. six) (λ in-class.
       unless-declines such (leb 1 count) 6 _ (λ none. six) (λ some.
-      unless-declines such (leb (l .tally .n + count) 1000000) 11 _ (λ over. eleven (leb-false (l .tally .n + count) 1000000 over)) (λ few.
-      unless-declines such (leb (l .tally .squares + count * (class * class)) 10000000000) 6 _ (λ out. six) (λ fit.
+      unless-declines such (leb (l .tally .n + count) mostMeasured) 11 _ (λ over. eleven (leb-false (l .tally .n + count) mostMeasured over)) (λ few.
+      unless-declines such (leb (l .tally .squares + count * (class * class)) mostSquares) 6 _ (λ out. six) (λ fit.
       gives-declines such (withTrees class count l))))))
       (λ m. gives-declines such (withLine s m))))
 
-  pub height-declines : (cm tenths : ℕ) (s : Survey) → such 5 → such 10 → such 6 → such 13 → (1000 ≤ s .line .heights .number → such 11) →
+  pub height-declines : (cm tenths : ℕ) (s : Survey) → such 5 → such 10 → such 6 → such 13 → (mostHeights ≤ s .line .heights .number → such 11) →
       Declines such (applyHeight cm tenths s)
   unfolding applyHeight height
   height-declines cm tenths s five ten six thirteen eleven =
@@ -78,8 +79,8 @@ module _ (such : ℕ → Type 0) where
       then-declines such (height cm tenths l) _
       (then-declines such (tariffOf c cm tenths) _
       (six-or-thirteen-declines such six thirteen (single-tariff-declines (c .c1) (c .c2) (c .c3) (c .c4) cm tenths)) (λ T.
-      when-declines such (leb 1000 (l .heights .number)) 11 _ (λ full. eleven (leb-true 1000 (l .heights .number) full)) (λ room.
-      unless-declines such (leb (l .heights .tariffs + T) 50000) 6 _ (λ out. six) (λ fit.
+      when-declines such (leb mostHeights (l .heights .number)) 11 _ (λ full. eleven (leb-true mostHeights (l .heights .number) full)) (λ room.
+      unless-declines such (leb (l .heights .tariffs + T) mostTariffs) 6 _ (λ out. six) (λ fit.
       gives-declines such (withHeight T l)))))
       (λ m. gives-declines such (withLine s m))))
 
@@ -97,7 +98,7 @@ module _ (such : ℕ → Type 0) where
       then-declines such (mean (l .tally .n) (l .tally .squares)) _ (six-declines such six (mean-declines (l .tally .n) (l .tally .squares))) (λ d.
       when-declines such (eqb (factorFor factors d) 0) 14 _ (λ none. fourteen) (λ given.
       then-declines such (trees (l .tally .n) (l .p) (l .q)) _ (six-declines such six (trees-declines (l .tally .n) (l .p) (l .q))) (λ N.
-      unless-declines such (leb N 100000000) 15 _ (λ over. fifteen) (λ few.
+      unless-declines such (leb N mostEstimated) 15 _ (λ over. fifteen) (λ few.
       then-declines such (lineTariff (l .heights .tariffs) (l .heights .number)) _ (six-declines such six (line-tariff-declines (l .heights .tariffs) (l .heights .number))) (λ T.
       worked-declines l T d (factorFor factors d) N six)))))))
 

@@ -10,9 +10,9 @@ use lib.ListN.{length, getD, take}
 use lib.Dec.{eqb, lit<, eqb·suc-zero}
 use lib.IntN.{pos}
 use Rattle.biomass.specs.Ends.{between}
+use Rattle.biomass.specs.Project.{projectOf}
 use Rattle.biomass.specs.Fraction.{Fraction, whole, _⊗_, _over_, _≼_}
 use Rattle.biomass.specs.Exact.{NotBelow, NotAbove}
-use Rattle.biomass.specs.Project.{projectOf}
 use Rattle.biomass.specs.Law.Signed.{pos-le}
 use Rattle.biomass.specs.Law.Fraction.{≼-refl, ≼-trans, ⊕-mono, ⊗-mono, whole-⊕, share-not-under, share-not-over}
 use Rattle.biomass.specs.Law.Exact.{row-den, row-not-under, row-not-over}

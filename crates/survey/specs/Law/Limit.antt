@@ -7,6 +7,7 @@ use mathlib.Core.Bool.{true, false}
 use lib.Dec.{eqb}
 use borrow.Author.Tests.{eqb-false}
 use Rattle.biomass.specs.Report.{refused}
+use Rattle.biomass.specs.Limits.{mostMeasured, mostHeights}
 use Rattle.survey.specs.Survey.{mostLines, openLine}
 use Rattle.survey.specs.Apply.{applyMeasured, applyHeight, applyClose, apply}
 use Rattle.survey.specs.Valid.{Valid}
@@ -27,14 +28,14 @@ lines-limit stratum id p q s e =
     open-declines (Eleven (mostLines ≤ s .closed)) stratum id p q s
     (other 5 refl) (other 6 refl) (other 9 refl) (other 8 refl) (other 7 refl) (λ full is. full) 11 e refl
 
-pub trees-limit : (class count : ℕ) (s : Survey) → applyMeasured class count s ≡ refused 11 → 1000000 < s .line .tally .n + count
+pub trees-limit : (class count : ℕ) (s : Survey) → applyMeasured class count s ≡ refused 11 → mostMeasured < s .line .tally .n + count
 trees-limit class count s e =
-    measure-declines (Eleven (1000000 < s .line .tally .n + count)) class count s
+    measure-declines (Eleven (mostMeasured < s .line .tally .n + count)) class count s
     (other 5 refl) (other 10 refl) (other 6 refl) (λ over is. over) 11 e refl
 
-pub heights-limit : (cm tenths : ℕ) (s : Survey) → applyHeight cm tenths s ≡ refused 11 → 1000 ≤ s .line .heights .number
+pub heights-limit : (cm tenths : ℕ) (s : Survey) → applyHeight cm tenths s ≡ refused 11 → mostHeights ≤ s .line .heights .number
 heights-limit cm tenths s e =
-    height-declines (Eleven (1000 ≤ s .line .heights .number)) cm tenths s
+    height-declines (Eleven (mostHeights ≤ s .line .heights .number)) cm tenths s
     (other 5 refl) (other 10 refl) (other 6 refl) (other 13 refl) (λ full is. full) 11 e refl
 
 -- closing tells it where a line is open and 32 are closed
@@ -55,8 +56,8 @@ abbrev pub AtLimit : Command → Survey → Type 0
 AtLimit (Command.Species id species) s = ⊥
 AtLimit (Command.Factor cm factor) s = ⊥
 AtLimit (Command.Open stratum species p q) s = mostLines ≤ s .closed
-AtLimit (Command.Measured class count) s = 1000000 < s .line .tally .n + count
-AtLimit (Command.Height cm tenths) s = 1000 ≤ s .line .heights .number
+AtLimit (Command.Measured class count) s = mostMeasured < s .line .tally .n + count
+AtLimit (Command.Height cm tenths) s = mostHeights ≤ s .line .heights .number
 AtLimit Command.Close s = mostLines ≤ s .closed
 AtLimit Command.End s = ⊥
 

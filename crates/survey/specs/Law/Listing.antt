@@ -7,9 +7,9 @@ use mathlib.Core.List.{List, [], _∷_, _++_}
 use lib.ListN.{length, drop, set, replicate}
 use borrow.Author.Tests.{le-ltb}
 use Rattle.biomass.specs.Whole.{greatest}
+use Rattle.biomass.specs.Tariff.{singleTariff, lineTariff}
 use Rattle.biomass.specs.Mean.{meanOf, mean}
 use Rattle.biomass.specs.Trees.{trees}
-use Rattle.biomass.specs.Tariff.{singleTariff, lineTariff}
 use Rattle.biomass.specs.Stem.{VL, VH, stemEnds, stem}
 use Rattle.biomass.specs.Crown.{crownEnds, crown}
 use Rattle.biomass.specs.Root.{rootEnds, root}

@@ -9,6 +9,7 @@ use mathlib.Core.List.{List, [], _∷_}
 use lib.Dec.{leb, eqb, lit<}
 use borrow.Author.Tests.{leb-true, eqb-true}
 use Rattle.biomass.specs.Report.{refused}
+use Rattle.biomass.specs.Limits.{mostEstimated}
 use Rattle.biomass.specs.Law.Report.{both-true}
 use Rattle.biomass.specs.Law.Declines.{Declines, gives-declines, unless-declines}
 use Rattle.survey.specs.Refusal.{number}
@@ -62,7 +63,7 @@ close-named s =
     cond-declines such (eqb (l .tally .n) 0) _ _ (gives-declines such (withRow s (closingRow s)))
     (when-declines such (eqb (l .heights .number) 0) 12 _ (λ none. refl) (λ heights.
     when-declines such (eqb (f-of s) 0) 14 _ (λ none. refl) (λ given.
-    unless-declines such (leb (N-of l) 100000000) 15 _ (λ over. refl) (λ few.
+    unless-declines such (leb (N-of l) mostEstimated) 15 _ (λ over. refl) (λ few.
     gives-declines such (withRow s (closingRow s))))))))
 
 -- the refusals that document 01 does not name are unreachable

@@ -13,9 +13,9 @@ use lib.IntN.{pos}
 use Rattle.biomass.specs.Ends.{between}
 use Rattle.biomass.specs.Crown.{w}
 use Rattle.biomass.specs.Root.{y}
+use Rattle.biomass.specs.Project.{projectOf}
 use Rattle.biomass.specs.Fraction.{Fraction, whole, _over_, _≼_}
 use Rattle.biomass.specs.Exact.{NotBelow, NotAbove}
-use Rattle.biomass.specs.Project.{projectOf}
 use Rattle.biomass.specs.Law.Signed.{pos-le}
 use Rattle.biomass.specs.Law.Fraction.{≼-refl, ⊕-mono, ⊗-mono}
 use Rattle.biomass.specs.Law.Power.{units, w-not-above, next-w-not-below, y-not-above, next-y-not-below}

@@ -6,8 +6,10 @@ use mathlib.Core.List.{List, [], _∷_}
 use lib.ListN.{length, getD, take}
 use lib.Dec.{lit≤}
 use Rattle.biomass.specs.Report.{gives}
+use Rattle.biomass.specs.Limits.{mostEstimated}
 use Rattle.biomass.specs.Project.{projectOf, greatestSum, project}
 use Rattle.biomass.specs.Law.Report.{true-inside}
+use Rattle.biomass.specs.Law.Tree.{greatestRow}
 use Rattle.survey.specs.Survey.{mostLines}
 use Rattle.survey.specs.Total.{sumOf, treesOf, lowOf, highOf, sums}
 use Rattle.survey.specs.declared.row.Row.{Row}
@@ -15,7 +17,7 @@ use Rattle.survey.specs.declared.row.Row.{Row}
 -- rows whose figures are within those of the greatest row (biomass/specs/Law/Tree.antt), as those of a valid survey are (Law.Demand3: rows-small)
 pub data RowsSmall : List Row → Type 0 where
   none : RowsSmall []
-  more : (r : Row) (rs : List Row) → r .trees ≤ 100000000 → lowOf r ≤ highOf r → highOf r ≤ 26412187223000001 → RowsSmall rs → RowsSmall (r ∷ rs)
+  more : (r : Row) (rs : List Row) → r .trees ≤ mostEstimated → lowOf r ≤ highOf r → highOf r ≤ greatestRow → RowsSmall rs → RowsSmall (r ∷ rs)
 
 -- and so the first of them
 pub first-small : (i n : ℕ) (rows : List Row) → i ≤ n → RowsSmall (take n rows) → RowsSmall (take i rows)
@@ -27,7 +29,7 @@ first-small (suc i) (suc n) (r ∷ rows) h (RowsSmall.more x xs few ordered most
 
 -- of small rows, each sum is at most the number of rows times the greatest figure
 pub sums-small : (rows : List Row) → RowsSmall rows
-    → (sumOf treesOf rows ≤ 100000000 * length rows) × (sumOf highOf rows ≤ 26412187223000001 * length rows) × (sumOf lowOf rows ≤ sumOf highOf rows)
+    → (sumOf treesOf rows ≤ mostEstimated * length rows) × (sumOf highOf rows ≤ greatestRow * length rows) × (sumOf lowOf rows ≤ sumOf highOf rows)
 unfolding sumOf
 sums-small rows RowsSmall.none = (lit≤ tt, lit≤ tt, lit≤ tt)
 sums-small rows (RowsSmall.more r rs few ordered small h) = let rest = sums-small rs h in omega arith

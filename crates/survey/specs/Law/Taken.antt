@@ -6,11 +6,12 @@ use lib.Dec.{leb}
 use borrow.Author.Tests.{leb-true, leb-false, ltb-false}
 use Rattle.biomass.specs.Whole.{inside}
 use Rattle.biomass.specs.Report.{gives}
+use Rattle.biomass.specs.Limits.{mostMeasured, mostHeights, greatestArea}
 use Rattle.biomass.specs.Law.Report.{Inside, inside-true}
 use Rattle.biomass.specs.Law.Gives.{figure-is, made}
 use Rattle.survey.specs.Line.{begun, withTrees, withHeight, tariffOf, factorAt}
 use Rattle.survey.specs.Survey.{mostLines, speciesAt, withSpecies, withFactor, withOpened, withLine, withRow, withEnd, speciesInRange, declared, declare, giveFactor, opened, openLine, finish}
-use Rattle.survey.specs.Apply.{measured, height, lineRow, applyMeasured, applyHeight, kept, applyClose}
+use Rattle.survey.specs.Apply.{mostSquares, mostTariffs, measured, height, lineRow, applyMeasured, applyHeight, kept, applyClose}
 use Rattle.survey.specs.Valid.{ValidSpecies}
 use Rattle.survey.specs.Law.Checks.{when-gives, unless-gives, species-in-range}
 use Rattle.survey.specs.declared.command.Species.{Species}
@@ -63,8 +64,8 @@ factor-gives cm factor s t e =
 
 pub record Opens (stratum id p q : ℕ) (s t : Survey) : Type 0 where
   pub not-ended : s .ended ≡ false
-  pub p-range : Inside 1 p 100000000
-  pub q-range : Inside 1 q 100000000
+  pub p-range : Inside 1 p greatestArea
+  pub q-range : Inside 1 q greatestArea
   pub none-open : s .active ≡ false
   pub is-declared : declared id s ≡ true
   pub first : opened stratum id s ≡ false
@@ -75,16 +76,16 @@ pub open-gives : (stratum id p q : ℕ) (s t : Survey) → openLine stratum id p
 unfolding openLine
 open-gives stratum id p q s t e =
     let ended = when-gives (s .ended) 5 _ e in
-    let in-p = unless-gives (inside 1 p 100000000) 6 _ (ended .next) in
-    let in-q = unless-gives (inside 1 q 100000000) 6 _ (in-p .next) in
+    let in-p = unless-gives (inside 1 p greatestArea) 6 _ (ended .next) in
+    let in-q = unless-gives (inside 1 q greatestArea) 6 _ (in-p .next) in
     let none-open = when-gives (s .active) 9 _ (in-q .next) in
     let is-declared = unless-gives (declared id s) 8 _ (none-open .next) in
     let first = when-gives (opened stratum id s) 7 _ (is-declared .next) in
     let room = when-gives (leb mostLines (s .closed)) 11 _ (first .next) in
     record {
       not-ended = ended .test-is;
-      p-range = inside-true 1 p 100000000 (in-p .test-is);
-      q-range = inside-true 1 q 100000000 (in-q .test-is);
+      p-range = inside-true 1 p greatestArea (in-p .test-is);
+      q-range = inside-true 1 q greatestArea (in-q .test-is);
       none-open = none-open .test-is;
       is-declared = is-declared .test-is;
       first = first .test-is;
@@ -97,7 +98,7 @@ pub record Measures (class count : ℕ) (s t : Survey) : Type 0 where
   pub is-open : s .active ≡ true
   pub class-range : Inside 7 class 100
   pub some : 1 ≤ count
-  pub trees : s .line .tally .n + count ≤ 1000000
+  pub trees : s .line .tally .n + count ≤ mostMeasured
   pub is : t ≡ withLine s (withTrees class count (s .line))
 
 pub measure-gives : (class count : ℕ) (s t : Survey) → applyMeasured class count s ≡ gives t → Measures class count s t
@@ -109,14 +110,14 @@ measure-gives class count s t e =
     let noted = made (measured class count l) _ (is-open .next) in
     let in-class = unless-gives (inside 7 class 100) 6 _ (noted .gave) in
     let some = unless-gives (leb 1 count) 6 _ (in-class .next) in
-    let trees = unless-gives (leb (l .tally .n + count) 1000000) 11 _ (some .next) in
-    let squares = unless-gives (leb (l .tally .squares + count * (class * class)) 10000000000) 6 (gives (withTrees class count l)) (trees .next) in
+    let trees = unless-gives (leb (l .tally .n + count) mostMeasured) 11 _ (some .next) in
+    let squares = unless-gives (leb (l .tally .squares + count * (class * class)) mostSquares) 6 (gives (withTrees class count l)) (trees .next) in
     record {
       not-ended = ended .test-is;
       is-open = is-open .test-is;
       class-range = inside-true 7 class 100 (in-class .test-is);
       some = leb-true 1 count (some .test-is);
-      trees = leb-true (l .tally .n + count) 1000000 (trees .test-is);
+      trees = leb-true (l .tally .n + count) mostMeasured (trees .test-is);
       is = sym (figure-is (noted .next)) ∙ ap (withLine s) (sym (figure-is (squares .next)));
     }
 
@@ -125,7 +126,7 @@ pub record GivesHeight (cm tenths : ℕ) (s t : Survey) : Type 0 where
   pub is-open : s .active ≡ true
   pub tariff : ℕ
   pub tariff-is : tariffOf (s .line .species) cm tenths ≡ gives tariff
-  pub room : s .line .heights .number < 1000
+  pub room : s .line .heights .number < mostHeights
   pub is : t ≡ withLine s (withHeight tariff (s .line))
 
 pub height-gives : (cm tenths : ℕ) (s t : Survey) → applyHeight cm tenths s ≡ gives t → GivesHeight cm tenths s t
@@ -136,14 +137,14 @@ height-gives cm tenths s t e =
     let is-open = unless-gives (s .active) 10 _ (ended .next) in
     let noted = made (height cm tenths l) _ (is-open .next) in
     let single = made (tariffOf (l .species) cm tenths) _ (noted .gave) in
-    let room = when-gives (leb 1000 (l .heights .number)) 11 _ (single .next) in
-    let sum = unless-gives (leb (l .heights .tariffs + single .figure) 50000) 6 (gives (withHeight (single .figure) l)) (room .next) in
+    let room = when-gives (leb mostHeights (l .heights .number)) 11 _ (single .next) in
+    let sum = unless-gives (leb (l .heights .tariffs + single .figure) mostTariffs) 6 (gives (withHeight (single .figure) l)) (room .next) in
     record {
       not-ended = ended .test-is;
       is-open = is-open .test-is;
       tariff = single .figure;
       tariff-is = single .gave;
-      room = leb-false 1000 (l .heights .number) (room .test-is);
+      room = leb-false mostHeights (l .heights .number) (room .test-is);
       is = sym (figure-is (noted .next)) ∙ ap (withLine s) (sym (figure-is (sum .next)));
     }
 

@@ -7,6 +7,7 @@ use mathlib.Core.Bool.{true≢false}
 use lib.Seq.{getD-set-same}
 use lib.Dec.{lit≤, lit<}
 use Rattle.biomass.specs.Report.{Report, refused, gives}
+use Rattle.biomass.specs.Limits.{mostMeasured, mostHeights}
 use Rattle.survey.specs.Line.{begun, withTrees, factorAt}
 use Rattle.survey.specs.Survey.{After, leaves, mostLines, undeclared, fresh, speciesAt, withSpecies, withOpened, withLine, declare, opened, openLine, finish}
 use Rattle.survey.specs.Apply.{measured, applyMeasured, apply}
@@ -70,16 +71,16 @@ lines-below-limit stratum id p q s u below e =
     let at : mostLines ≤ s .closed = told-at-limit (Command.Open stratum id p q) s (ap (λ (x : After). x .refusal) e) in
     omega arith
 
-pub trees-below-limit : (class count : ℕ) (s u : Survey) → s .line .tally .n + count ≤ 1000000 →
+pub trees-below-limit : (class count : ℕ) (s u : Survey) → s .line .tally .n + count ≤ mostMeasured →
     leaves s (apply (Command.Measured class count) s) ≡ record { survey = u; refusal = 11 } → ⊥
 trees-below-limit class count s u below e =
-    let over : 1000000 < s .line .tally .n + count = told-at-limit (Command.Measured class count) s (ap (λ (x : After). x .refusal) e) in
+    let over : mostMeasured < s .line .tally .n + count = told-at-limit (Command.Measured class count) s (ap (λ (x : After). x .refusal) e) in
     omega arith
 
-pub heights-below-limit : (cm tenths : ℕ) (s u : Survey) → s .line .heights .number < 1000 →
+pub heights-below-limit : (cm tenths : ℕ) (s u : Survey) → s .line .heights .number < mostHeights →
     leaves s (apply (Command.Height cm tenths) s) ≡ record { survey = u; refusal = 11 } → ⊥
 heights-below-limit cm tenths s u below e =
-    let at : 1000 ≤ s .line .heights .number = told-at-limit (Command.Height cm tenths) s (ap (λ (x : After). x .refusal) e) in
+    let at : mostHeights ≤ s .line .heights .number = told-at-limit (Command.Height cm tenths) s (ap (λ (x : After). x .refusal) e) in
     omega arith
 
 -- ---- at one place: the commands of the listing, up to its first measured trees, and the end of an empty book

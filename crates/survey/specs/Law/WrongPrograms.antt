@@ -9,6 +9,7 @@ use lib.ListN.{length, take, drop}
 use lib.Dec.{lit≤, lit<}
 use lib.IntN.{pos}
 use borrow.Author.Tests.{le-ltb}
+use Rattle.biomass.specs.Units.{crownLimit, rootLimit}
 use Rattle.biomass.specs.Trees as Trees
 use Rattle.biomass.specs.Fraction.{whole}
 use Rattle.biomass.specs.Exact.{Given, exactStem, exactCrown, exactRoot}
@@ -141,5 +142,5 @@ zero-low-not-demand-3 high demand =
 
     no-powers : NoneAbove any listingLines
     no-powers =
-        more 0 _ _ (λ _. record { on-crown = λ (h : 600 ≤ 500). absurd (omega arith); on-root = λ (h : 600 ≤ 300). absurd (omega arith) })
+        more 0 _ _ (λ _. record { on-crown = λ (h : 600 ≤ crownLimit). absurd (omega arith); on-root = λ (h : 600 ≤ rootLimit). absurd (omega arith) })
         (more 1 _ _ (λ (some : 1 ≤ 0). absurd (omega arith)) (none 2))

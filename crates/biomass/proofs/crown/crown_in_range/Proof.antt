@@ -5,6 +5,7 @@ use mathlib.Core.Path.{_∙_, ap₂}
 use lib.Dec.{lit<}
 use lib.IntN.{ℤ}
 use borrow.Author.Tests.{le-leb, lt-leb}
+use Rattle.biomass.specs.Units.{crownLimit}
 use Rattle.biomass.specs.Ends.{range, curve, straight}
 use Rattle.biomass.specs.Crown.{a, b, crownEnds}
 use Rattle.biomass.specs.Law.Crown.{crown-k, crown-rising}
@@ -42,7 +43,7 @@ returns c =
     let coefficient = unsigned (column 0 (picked .crown-row .ensures)) (crown-k _ (begin .pre .0 .most)) (lit< tt) in
     c .on-curve .ensures
     ∙ ap₂ (λ (z : ℤ) (p : ℕ). range (curve z p 1000000)) coefficient (c .before .crown-power .ensures)
-    ∙ rw (le-leb (begin .args .d) 500 (omega arith))
+    ∙ rw (le-leb (begin .args .d) crownLimit (omega arith))
 
 array-copy-out-on-line : tie.Need-array-copy-out-on-line
 array-copy-out-on-line c = omega arith
@@ -50,8 +51,8 @@ array-copy-out-on-line c = omega arith
 array-copy-out-on-line-2 : tie.Need-array-copy-out-on-line-2
 array-copy-out-on-line-2 c = omega arith
 
--- above 500 the line has risen above 0
-line : (begin : tie.Start) → 500 < begin .args .d → Rising (a (begin .args .group)) (b (begin .args .group)) (begin .args .d)
+-- past the curve the line has risen above 0
+line : (begin : tie.Start) → crownLimit < begin .args .d → Rising (a (begin .args .group)) (b (begin .args .group)) (begin .args .d)
 line begin after = crown-rising _ _ (begin .pre .0 .most) after (begin .pre .1 .most)
 
 on-line-requires : tie.Need-on-line-requires
@@ -69,7 +70,7 @@ returns-2 c =
     let risen = line begin (omega arith) in
     c .on-line .ensures
     ∙ ap₂ (λ (s r : ℤ). range (straight s r (begin .args .d))) (start-read start-is rise-is risen) (rise-read start-is rise-is risen)
-    ∙ rw (lt-leb (begin .args .d) 500 (omega arith))
+    ∙ rw (lt-leb (begin .args .d) crownLimit (omega arith))
 
 pub crown-in-range-spec : {M : Type 1} → statement M
 crown-in-range-spec =

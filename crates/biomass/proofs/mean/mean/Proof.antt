@@ -1,8 +1,9 @@
 -- `biomass::mean::mean` meets its contract: each test of the code is the definition's, and past the first n is at most a million.
 use mathlib.Core.Path.{ap}
 use native.Mathlib.Omega.{arith}
-use Rattle.biomass.specs.Mean.{mean}
 use Rattle.biomass.specs.Report.{gives}
+use Rattle.biomass.specs.Limits.{mostMeasured}
+use Rattle.biomass.specs.Mean.{mean}
 use Rattle.biomass.specs.Law.Report.{refuses, goes-on, in-range}
 use Rattle.biomass.proofs.mean.mean.Statement.{statement}
 use Rattle.biomass.proofs.mean.mean.Tie as tie
@@ -15,10 +16,10 @@ unfolding mean
 returns c = refuses _ _ (c .before .within .ensures) (c .if1 .taken)
 
 mul-within : tie.Need-mul-within
-mul-within c = omega (arith, in-range {lo = 1} {x = c .before .before .args .n} {hi = 1000000} (c .before .within .ensures) (c .if1 .left))
+mul-within c = omega (arith, in-range {lo = 1} {x = c .before .before .args .n} {hi = mostMeasured} (c .before .within .ensures) (c .if1 .left))
 
 mul-within-2 : tie.Need-mul-within-2
-mul-within-2 c = omega (arith, in-range {lo = 1} {x = c .before .before .args .n} {hi = 1000000} (c .before .within .ensures) (c .if1 .left))
+mul-within-2 c = omega (arith, in-range {lo = 1} {x = c .before .before .args .n} {hi = mostMeasured} (c .before .within .ensures) (c .if1 .left))
 
 within-requires-2 : tie.Need-within-requires-2
 within-requires-2 c κs = tt

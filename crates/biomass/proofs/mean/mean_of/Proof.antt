@@ -1,27 +1,33 @@
--- `biomass::mean::mean_of` meets its contract: step 2's first inequality holds at `low` and no more at `above`, which start at 70 and 1001. The distance falls,
--- and where it is 1, `low` is the mean (`mean-between`).
+-- `biomass::mean::mean_of` meets its contract: step 2's first inequality holds at `low` and no more at `above`, which start at the least d and
+-- past the greatest. The distance falls, and where it is 1, `low` is the mean (`mean-between`).
 use Prim.Native.Nat.{ℕ, _+_, _-_, _*_, _^_, _≤_, _<_}
 use native.Mathlib.Omega.{arith}
 use native.Mathlib.Nat.{mul-le-mul, lt-of-le-of-lt}
 use mathlib.Core.Path.{_≡_, sym}
 use lib.Dec.{lit<}
 use Rattle.biomass.specs.Whole.{square}
-use Rattle.biomass.specs.Law.Mean.{mean-between, at-least-70, at-most-1000}
+use Rattle.biomass.specs.Units.{leastD, greatestD}
+use Rattle.biomass.specs.Limits.{mostMeasured}
+use Rattle.biomass.specs.Mean.{squareScale}
+use Rattle.biomass.specs.Law.Mean.{mean-between, holds-at-least, fails-past-greatest}
 use Rattle.biomass.proofs.mean.mean_of.Statement.{statement}
 use Rattle.biomass.proofs.mean.mean_of.Tie as tie
 
 abbrev Inv-loop : tie.InvT-loop
 Inv-loop n squares low₀ above₀ low above =
-    (70 ≤ low) × (low < above) × (above ≤ 1001) × (square (2 * low - 1) * n ≤ 400 * squares) × (400 * squares < square (2 * above - 1) * n)
+    (leastD ≤ low) × (low < above) × (above ≤ greatestD + 1) × (square (2 * low - 1) * n ≤ squareScale * squares) × (squareScale * squares < square (2 * above - 1) * n)
 
 abbrev μ-loop : tie.MeasureT-loop
 μ-loop n squares low₀ above₀ low above = above - low
 
--- a side of at most 2001, squared, times a million trees
-square-fits : {x : ℕ} → x ≤ 2001 → x * x < 2 ^ 64
+-- the greatest side, squared, times a million trees
+abbrev greatestSide : ℕ
+greatestSide = 2 * (greatestD + 1) - 1
+
+square-fits : {x : ℕ} → x ≤ greatestSide → x * x < 2 ^ 64
 square-fits h = lt-of-le-of-lt (mul-le-mul h h) (lit< tt)
 
-product-fits : {x n : ℕ} → x ≤ 2001 → n ≤ 1000000 → x * x * n < 2 ^ 64
+product-fits : {x n : ℕ} → x ≤ greatestSide → n ≤ mostMeasured → x * x * n < 2 ^ 64
 product-fits h k = lt-of-le-of-lt (mul-le-mul (mul-le-mul h h) k) (lit< tt)
 
 add-above : tie.Need-add-above Inv-loop μ-loop
@@ -32,8 +38,8 @@ loop-holds c = (
   omega arith,
   omega arith,
   omega arith,
-  at-least-70 (c .args .n) (c .args .squares) (c .pre .1 .least),
-  at-most-1000 (c .args .n) (c .args .squares) (c .pre .0 .least) (c .pre .1 .most),
+  holds-at-least (c .args .n) (c .args .squares) (c .pre .1 .least),
+  fails-past-greatest (c .args .n) (c .args .squares) (c .pre .0 .least) (c .pre .1 .most),
 )
 
 sub-loop : tie.Need-sub-loop Inv-loop μ-loop

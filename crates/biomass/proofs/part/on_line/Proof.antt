@@ -1,56 +1,63 @@
--- `biomass::part::on_line` meets its contract: the start and the rise are at most 10^9 in size and d at most 1000, so the sum is far from the ends of 64 bits; and it
+-- `biomass::part::on_line` meets its contract: the start and the rise are at most 10^9 in size and d is in its range, so the sum is far from the ends of 64 bits; and it
 -- is not negative (`Rising`), so that its cast to an unsigned number is itself.
-use Prim.Native.Nat.{_+_, _*_, _^_, _≤_}
+use Prim.Native.Nat.{ℕ, _+_, _*_, _^_, _≤_}
 use native.Mathlib.Omega.{arith}
 use mathlib.Core.Path.{_≡_, _∙_, subst}
 use lib.IntN.{ℤ, pos, natAbs, _+ℤ_, _*ℤ_}
 use mir.Syntax.{w64}
 use mir.Val.{toZ}
+use Rattle.biomass.specs.Units.{unitsToCm, greatestD}
 use Rattle.biomass.proofs.Small.{Small, local, fits, kept, plus, times, numeral, double, natural}
 use Rattle.biomass.proofs.part.on_line.Statement.{statement}
 use Rattle.biomass.proofs.part.on_line.Tie as tie
 
 module _ (c : tie.Start) where
-  ten-start : Small (pos 10 *ℤ local (c .args .start)) (pos 10 *ℤ c .args .start) (10 * 10 ^ 9)
-  ten-start = times (numeral 10) (double (c .fits .start) (c .pre .start-small))
+  from-start : Small (pos unitsToCm *ℤ local (c .args .start)) (pos unitsToCm *ℤ c .args .start) (unitsToCm * 10 ^ 9)
+  from-start = times (numeral unitsToCm) (double (c .fits .start) (c .pre .start-small))
 
-  risen : Small (local (c .args .rise) *ℤ toZ w64 (c .args .d)) (c .args .rise *ℤ pos (c .args .d)) (10 ^ 9 * 1000)
-  risen = times (double (c .fits .rise) (c .pre .rise-small)) (natural 1000 (c .pre .d-small) tt)
+  by-rise : Small (local (c .args .rise) *ℤ toZ w64 (c .args .d)) (c .args .rise *ℤ pos (c .args .d)) (10 ^ 9 * greatestD)
+  by-rise = times (double (c .fits .rise) (c .pre .rise-small)) (natural greatestD (c .pre .d-small) tt)
 
 abbrev machine : tie.Start → ℤ
-machine c = local (pos 10 *ℤ local (c .args .start)) +ℤ local (local (c .args .rise) *ℤ toZ w64 (c .args .d))
+machine c = local (pos unitsToCm *ℤ local (c .args .start)) +ℤ local (local (c .args .rise) *ℤ toZ w64 (c .args .d))
 
-sum : (c : tie.Start) → Small (machine c) (pos 10 *ℤ c .args .start +ℤ c .args .rise *ℤ pos (c .args .d)) (10 * 10 ^ 9 + 10 ^ 9 * 1000)
-sum c = plus (kept (ten-start c) tt) (kept (risen c) tt)
+abbrev most : ℕ
+most = unitsToCm * 10 ^ 9 + 10 ^ 9 * greatestD
 
-tenths : (c : tie.Start) → local (machine c) ≡ pos (c .pre .tenths)
-tenths c = kept (sum c) tt .is ∙ c .pre .is
+sum : (c : tie.Start) → Small (machine c) (pos unitsToCm *ℤ c .args .start +ℤ c .args .rise *ℤ pos (c .args .d)) most
+sum c = plus (kept (from-start c) tt) (kept (by-rise c) tt)
 
-tenths-small : (c : tie.Start) → c .pre .tenths ≤ 10 * 10 ^ 9 + 10 ^ 9 * 1000
-tenths-small c = subst (λ z. natAbs z ≤ 10 * 10 ^ 9 + 10 ^ 9 * 1000) (c .pre .is) (sum c .size)
+risen : (c : tie.Start) → local (machine c) ≡ pos (c .pre .risen)
+risen c = kept (sum c) tt .is ∙ c .pre .is
 
-mul-tenths : tie.Need-mul-tenths
-mul-tenths c = fits (ten-start c) tt
+risen-small : (c : tie.Start) → c .pre .risen ≤ most
+risen-small c = subst (λ z. natAbs z ≤ most) (c .pre .is) (sum c .size)
 
-cast-tenths : tie.Need-cast-tenths
-cast-tenths c = omega arith
+cast-risen : tie.Need-cast-risen
+cast-risen c = omega arith
 
-mul-tenths-2 : tie.Need-mul-tenths-2
-mul-tenths-2 c = fits (risen c) tt
+mul-risen : tie.Need-mul-risen
+mul-risen c = fits (from-start c) tt
 
-add-tenths : tie.Need-add-tenths
-add-tenths c = fits (sum c) tt
+cast-risen-2 : tie.Need-cast-risen-2
+cast-risen-2 c = omega arith
+
+mul-risen-2 : tie.Need-mul-risen-2
+mul-risen-2 c = fits (by-rise c) tt
+
+add-risen : tie.Need-add-risen
+add-risen c = fits (sum c) tt
 
 cast-low : tie.Need-cast-low
-cast-low c = rw (tenths c) (tt, omega (arith, tenths-small c))
+cast-low c = rw (risen c) (tt, omega (arith, risen-small c))
 
-add-t9 : tie.Need-add-t9
-add-t9 c = rw (tenths c) (omega (arith, tenths-small c))
+add-t10 : tie.Need-add-t10
+add-t10 c = rw (risen c) (omega (arith, risen-small c))
 
 returns : tie.Need-returns
-returns c = rw (tenths c, c .pre .is)
+returns c = rw (risen c, c .pre .is)
 
 pub on-line-spec : {M : Type 1} → statement M
 on-line-spec =
     tie.close
-    (tie.spec mul-tenths cast-tenths mul-tenths-2 add-tenths cast-low add-t9 returns)
+    (tie.spec cast-risen mul-risen cast-risen-2 mul-risen-2 add-risen cast-low add-t10 returns)

@@ -5,6 +5,7 @@ use mathlib.Core.Path.{_∙_, ap₂}
 use lib.Dec.{lit<}
 use lib.IntN.{ℤ}
 use borrow.Author.Tests.{le-leb, lt-leb}
+use Rattle.biomass.specs.Units.{rootLimit}
 use Rattle.biomass.specs.Ends.{range, curve, straight}
 use Rattle.biomass.specs.Root.{lineA, lineB, rootEnds}
 use Rattle.biomass.specs.Law.Root.{root-b, root-rising}
@@ -42,7 +43,7 @@ returns c =
     let coefficient = unsigned (column 0 (picked .root-row .ensures)) (root-b _ (begin .pre .0 .most)) (lit< tt) in
     c .on-curve .ensures
     ∙ ap₂ (λ (z : ℤ) (p : ℕ). range (curve z p 100000)) coefficient (c .before .root-power .ensures)
-    ∙ rw (le-leb (begin .args .d) 300 (omega arith))
+    ∙ rw (le-leb (begin .args .d) rootLimit (omega arith))
 
 array-copy-out-on-line : tie.Need-array-copy-out-on-line
 array-copy-out-on-line c = omega arith
@@ -50,8 +51,8 @@ array-copy-out-on-line c = omega arith
 array-copy-out-on-line-2 : tie.Need-array-copy-out-on-line-2
 array-copy-out-on-line-2 c = omega arith
 
--- above 300 the line has risen above 0
-line : (begin : tie.Start) → 300 < begin .args .d → Rising (lineA (begin .args .group)) (lineB (begin .args .group)) (begin .args .d)
+-- past the curve the line has risen above 0
+line : (begin : tie.Start) → rootLimit < begin .args .d → Rising (lineA (begin .args .group)) (lineB (begin .args .group)) (begin .args .d)
 line begin after = root-rising _ _ (begin .pre .0 .most) after (begin .pre .1 .most)
 
 on-line-requires : tie.Need-on-line-requires
@@ -69,7 +70,7 @@ returns-2 c =
     let risen = line begin (omega arith) in
     c .on-line .ensures
     ∙ ap₂ (λ (s r : ℤ). range (straight s r (begin .args .d))) (start-read start-is rise-is risen) (rise-read start-is rise-is risen)
-    ∙ rw (lt-leb (begin .args .d) 300 (omega arith))
+    ∙ rw (lt-leb (begin .args .d) rootLimit (omega arith))
 
 pub root-in-range-spec : {M : Type 1} → statement M
 root-in-range-spec =

@@ -1,25 +1,26 @@
--- `biomass::root::root_power` meets its contract: the fifth power of at most 300, times 10^5, is within 64 bits, and its square root is y.
+-- `biomass::root::root_power` meets its contract: the fifth power of a curve's diameter, times 10^5, is within 64 bits, and its square root is y.
 use Prim.Native.Nat.{ℕ, _*_, _^_, _≤_}
 use native.Mathlib.Nat.{mul-le-mul, mul-le-mul-left, pow-suc, lt-of-le-of-lt}
 use mathlib.Core.Path.{_≡_, _∙_, ap}
 use lib.Dec.{lit<}
 use Rattle.biomass.specs.Whole.{wholeRoot}
+use Rattle.biomass.specs.Units.{rootLimit}
 use Rattle.biomass.specs.Root.{y}
 use Rattle.biomass.specs.Law.Whole.{pow-two}
 use Rattle.biomass.proofs.root.root_power.Statement.{statement}
 use Rattle.biomass.proofs.root.root_power.Tie as tie
 
-module _ {d : ℕ} (h : d ≤ 300) where
-  two : d * d ≤ 300 * 300
+module _ {d : ℕ} (h : d ≤ rootLimit) where
+  two : d * d ≤ rootLimit * rootLimit
   two = mul-le-mul h h
 
-  three : d * d * d ≤ 300 * 300 * 300
+  three : d * d * d ≤ rootLimit * rootLimit * rootLimit
   three = mul-le-mul two h
 
-  four : d * d * d * d ≤ 300 * 300 * 300 * 300
+  four : d * d * d * d ≤ rootLimit * rootLimit * rootLimit * rootLimit
   four = mul-le-mul three h
 
-  five : d * d * d * d * d ≤ 300 * 300 * 300 * 300 * 300
+  five : d * d * d * d * d ≤ rootLimit * rootLimit * rootLimit * rootLimit * rootLimit
   five = mul-le-mul four h
 
 fifth : (d : ℕ) → d * d * d * d * d ≡ d ^ 5

@@ -1,4 +1,4 @@
--- `biomass::tree::row` meets its contract: each test of the code is the definition's; a tree is at most 26412187223 mg and there are at most 10^8 hundredths of one, so
+-- `biomass::tree::row` meets its contract: each test of the code is the definition's; a tree and the number of trees have their greatest, so that
 -- the products fit.
 use Prim.Native.Nat.{ℕ, _*_, _^_, _<_, _≤_}
 use native.Mathlib.Omega.{arith}
@@ -7,9 +7,10 @@ use mathlib.Core.Path.{_≡_, _∙_, sym, ap}
 use lib.Dec.{lit<}
 use borrow.Author.Tests.{eq-eqb, ne-eqb}
 use Rattle.biomass.specs.Report.{biomass, gives}
+use Rattle.biomass.specs.Limits.{mostEstimated}
 use Rattle.biomass.specs.Tree.{tree, row}
 use Rattle.biomass.specs.Law.Report.{refuses, goes-on, in-range, stops, follows}
-use Rattle.biomass.specs.Law.Tree.{TreeBounds, tree-bounds}
+use Rattle.biomass.specs.Law.Tree.{greatestTree, TreeBounds, tree-bounds}
 use Rattle.biomass.proofs.tree.row.Statement.{statement}
 use Rattle.biomass.proofs.tree.row.Tie as tie
 
@@ -43,10 +44,10 @@ tree-gave p = sym (p .before .before .before .tree .ensures) ∙ ap biomass (p .
 bounds : (p : tie.After-known-told) → TreeBounds (p .before .m .given .0 .0)
 bounds p = tree-bounds _ _ (tree-gave p)
 
-number : (p : tie.After-known-told) → p .before .before .before .before .before .before .args .trees ≤ 100000000
+number : (p : tie.After-known-told) → p .before .before .before .before .before .before .args .trees ≤ mostEstimated
 number p = in-range (p .before .before .before .before .before .within .ensures) (p .before .before .before .before .if1 .left) .most
 
-product-fits : {n x : ℕ} → n ≤ 100000000 → x ≤ 26412187223 → n * x < 2 ^ 64
+product-fits : {n x : ℕ} → n ≤ mostEstimated → x ≤ greatestTree → n * x < 2 ^ 64
 product-fits h k = lt-of-le-of-lt (mul-le-mul h k) (lit< tt)
 
 mul-t12 : tie.Need-mul-t12

@@ -3,10 +3,11 @@ use mathlib.Core.Path.{refl}
 use Prim.Native.Nat.{_*_, _≤_}
 use native.Mathlib.Omega.{arith}
 use native.Mathlib.Nat.{mul-le-mul}
+use Rattle.biomass.specs.Limits.{mostMeasured, greatestArea}
 use Rattle.biomass.proofs.trees.trees_of.Statement.{statement}
 use Rattle.biomass.proofs.trees.trees_of.Tie as tie
 
-product : (c : tie.Start) → c .args .n * c .args .p ≤ 1000000 * 100000000
+product : (c : tie.Start) → c .args .n * c .args .p ≤ mostMeasured * greatestArea
 product c = mul-le-mul (c .pre .0 .most) (c .pre .1 .most)
 
 mul-result : tie.Need-mul-result

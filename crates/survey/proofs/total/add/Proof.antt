@@ -5,7 +5,9 @@ use native.Mathlib.Numerals.{add-one}
 use mathlib.Core.Path.{_≡_, _∙_, refl, sym, ap, ap₂}
 use lib.ListN.{length, getD, take}
 use lib.Seq.{length-take-le}
+use Rattle.biomass.specs.Limits.{mostEstimated}
 use Rattle.biomass.specs.Ends.{between}
+use Rattle.biomass.specs.Law.Tree.{greatestRow}
 use Rattle.survey.specs.Survey.{mostLines}
 use Rattle.survey.specs.Total.{sumOf, treesOf, lowOf, highOf}
 use Rattle.survey.specs.Law.Sums.{first-small, sums-small, sum-one-more}
@@ -53,7 +55,7 @@ grown c figure is =
 -- and stays within 32 of the greatest rows
 bounded : (c : tie.In-loop Inv-loop μ-loop) →
     let first = take (c .before .loop .i + 1) (c .before .before .args .t1) in
-    (sumOf treesOf first ≤ 100000000 * mostLines) × (sumOf lowOf first ≤ 26412187223000001 * mostLines) × (sumOf highOf first ≤ 26412187223000001 * mostLines)
+    (sumOf treesOf first ≤ mostEstimated * mostLines) × (sumOf lowOf first ≤ greatestRow * mostLines) × (sumOf highOf first ≤ greatestRow * mostLines)
 bounded c =
     let rows = c .before .before .args .t1 in
     let i = c .before .loop .i in

@@ -6,11 +6,12 @@ use borrow.Author.Needs.{needs}
 use borrow.Author.Tests.{le-leb, lt-leb}
 use lib.Dec.{leb, lit≤}
 use Rattle.biomass.specs.Report.{Report, refused, gives, count, _then_}
+use Rattle.biomass.specs.Limits.{mostHeights}
 use Rattle.biomass.specs.Law.Report.{stops, follows}
 use Rattle.biomass.specs.Law.Tariff.{single-tariff-range}
 use Rattle.survey.specs.Refusal.{when}
 use Rattle.survey.specs.Line.{tariffOf}
-use Rattle.survey.specs.Apply.{height}
+use Rattle.survey.specs.Apply.{mostTariffs, height}
 use Rattle.survey.specs.declared.line.Line.{Line}
 use Rattle.survey.proofs.Check.{stop-when, past-when, stop-unless, past-unless, over, not-over}
 use Rattle.survey.proofs.Complement.{read-back}
@@ -58,7 +59,7 @@ returns-2 : tie.Need-returns-2
 unfolding height
 returns-2 c = follows _ _ (gave (c .before .before)) (stop-when _ (le-leb _ _ (c .if1 .taken)))
 
-small : (p : tie.After-known-told) → p .before .t .given .0 .0 ≤ 50000
+small : (p : tie.After-known-told) → p .before .t .given .0 .0 ≤ mostTariffs
 small p =
     let given = p .before .before .before .before .before .before .before .before .before .args in
     let s = given .self .species in
@@ -70,14 +71,14 @@ sub-if2 c = small (c .before .before)
 -- past the first test
 past-limit : (p : tie.Else1) {x : Report Line} (next : ℕ → Report Line) → x ≡ next (p .before .before .before .t .given .0 .0) →
     let given = p .before .before .before .before .before .before .before .before .before .before .before .args in
-    x ≡ (tariffOf (given .self .species) (given .cm) (given .tenths) then λ T. when (leb 1000 (given .self .heights .number)) 11 (next T))
+    x ≡ (tariffOf (given .self .species) (given .cm) (given .tenths) then λ T. when (leb mostHeights (given .self .heights .number)) 11 (next T))
 past-limit p next e = follows _ _ (gave (p .before .before)) (past-when _ _ (lt-leb _ _ (p .if1 .left)) e)
 
 returns-3 : tie.Need-returns-3
 unfolding height
 returns-3 c =
     let p = c .before .before in
-    past-limit p _ (stop-unless _ (over _ _ 50000 (small (p .before .before)) (c .if2 .taken)))
+    past-limit p _ (stop-unless _ (over _ _ mostTariffs (small (p .before .before)) (c .if2 .taken)))
 
 add-number : tie.Need-add-number
 add-number c = search needs
@@ -90,7 +91,7 @@ unfolding height
 returns-4 c =
     let last = c .before .before in
     let p = last .before .before in
-    past-limit p _ (past-unless _ _ (not-over _ _ 50000 (small (p .before .before)) (last .if2 .left)) refl)
+    past-limit p _ (past-unless _ _ (not-over _ _ mostTariffs (small (p .before .before)) (last .if2 .left)) refl)
 
 pub height-spec : {M : Type 1} → statement M
 height-spec =

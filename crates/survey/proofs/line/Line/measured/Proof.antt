@@ -9,14 +9,15 @@ use borrow.Author.Tests.{le-leb, lt-leb}
 use lib.Dec.{leb, lit<, lit≤}
 use Rattle.biomass.specs.Whole.{inside}
 use Rattle.biomass.specs.Report.{Report, unless}
+use Rattle.biomass.specs.Limits.{mostMeasured}
 use Rattle.biomass.specs.Law.Report.{Inside, refuses, goes-on, in-range}
-use Rattle.survey.specs.Apply.{measured}
+use Rattle.survey.specs.Apply.{mostSquares, measured}
 use Rattle.survey.specs.declared.line.Line.{Line}
 use Rattle.survey.proofs.Check.{stop-unless, past-unless, over, not-over}
 use Rattle.survey.proofs.line.Line.measured.Statement.{statement}
 use Rattle.survey.proofs.line.Line.measured.Tie as tie
 
-count-fits : (p : tie.Else2) → p .before .before .before .args .count ≤ 1000000
+count-fits : (p : tie.Else2) → p .before .before .before .args .count ≤ mostMeasured
 count-fits p = let f = p .before .before .before .fits .count .fits in omega arith
 
 -- the definition's first three checks, and that the report is what follows where they are passed
@@ -28,8 +29,8 @@ past-operands p next e =
 
 past-limit : (p : tie.Else3) {x : Report Line} (next : Report Line) → x ≡ next →
     let given = p .before .before .before .before .before .args in
-    x ≡ unless (inside 7 (given .class) 100) 6 (unless (leb 1 (given .count)) 6 (unless (leb (given .self .tally .n + given .count) 1000000) 11 next))
-past-limit p next e = past-operands (p .before .before) _ (past-unless _ next (not-over _ _ 1000000 (count-fits (p .before .before)) (p .if3 .left)) e)
+    x ≡ unless (inside 7 (given .class) 100) 6 (unless (leb 1 (given .count)) 6 (unless (leb (given .self .tally .n + given .count) mostMeasured) 11 next))
+past-limit p next e = past-operands (p .before .before) _ (past-unless _ next (not-over _ _ mostMeasured (count-fits (p .before .before)) (p .if3 .left)) e)
 
 -- the squares of so many trees
 few : {count class : ℕ} → count < 65536 → class ≤ 100 → count * (class * class) ≤ 655360000
@@ -53,7 +54,7 @@ sub-if3 c = omega arith
 
 returns-3 : tie.Need-returns-3
 unfolding measured
-returns-3 c = past-operands (c .before .before) _ (stop-unless _ (over _ _ 1000000 (count-fits (c .before .before)) (c .if3 .taken)))
+returns-3 c = past-operands (c .before .before) _ (stop-unless _ (over _ _ mostMeasured (count-fits (c .before .before)) (c .if3 .taken)))
 
 -- what is known of the operands past the third test
 class-range : (p : tie.Else3) → Inside 7 (p .before .before .before .before .before .args .class) 100
@@ -66,7 +67,7 @@ squares p = few (p .before .before .before .before .before .fits .count .fits) (
 
 squares-fit : (p : tie.Else3) →
     let given = p .before .before .before .before .before .args in
-    given .count * (given .class * given .class) ≤ 10000000000
+    given .count * (given .class * given .class) ≤ mostSquares
 squares-fit p = le-trans (squares p) (lit≤ tt)
 
 mul-added : tie.Need-mul-added
@@ -82,7 +83,7 @@ sub-if4 c = omega (arith, squares c)
 
 returns-4 : tie.Need-returns-4
 unfolding measured
-returns-4 c = past-limit (c .before .before) _ (stop-unless _ (over _ _ 10000000000 (squares-fit (c .before .before)) (c .if4 .taken)))
+returns-4 c = past-limit (c .before .before) _ (stop-unless _ (over _ _ mostSquares (squares-fit (c .before .before)) (c .if4 .taken)))
 
 add-n : tie.Need-add-n
 add-n c = search needs
@@ -96,7 +97,7 @@ returns-5 : tie.Need-returns-5
 unfolding measured
 returns-5 c =
     let p = c .before .before in
-    past-limit (p .before .before) _ (past-unless _ _ (not-over _ _ 10000000000 (squares-fit (p .before .before)) (p .if4 .left)) refl)
+    past-limit (p .before .before) _ (past-unless _ _ (not-over _ _ mostSquares (squares-fit (p .before .before)) (p .if4 .left)) refl)
 
 pub measured-spec : {M : Type 1} → statement M
 measured-spec =

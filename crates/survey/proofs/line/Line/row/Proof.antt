@@ -1,6 +1,6 @@
 -- `survey::line::Line::row` meets its contract: each test and each figure of the code is the definition's, in the same order. A mean that is given is at most
 -- 1,000 tenths of a cm, so that the table of factors has a place for it.
-use Prim.Native.Nat.{ℕ, _/_}
+use Prim.Native.Nat.{ℕ}
 use native.Mathlib.Omega.{arith}
 use mathlib.Core.Path.{_≡_, _∙_, sym, ap}
 use mathlib.Core.Bool.{Bool, cond}
@@ -9,14 +9,15 @@ use borrow.Author.Needs.{needs}
 use borrow.Author.Tests.{eq-eqb, ne-eqb, le-leb, lt-leb}
 use lib.Dec.{eqb, leb}
 use Rattle.biomass.specs.Report.{Report, refused, gives, unless, count, _then_}
+use Rattle.biomass.specs.Limits.{mostEstimated}
+use Rattle.biomass.specs.Tariff.{lineTariff}
 use Rattle.biomass.specs.Mean.{mean}
 use Rattle.biomass.specs.Trees.{trees}
-use Rattle.biomass.specs.Tariff.{lineTariff}
 use Rattle.biomass.specs.Law.Report.{stops, follows}
 use Rattle.biomass.specs.Law.Mean.{mean-gives}
 use Rattle.biomass.specs.Law.Tariff.{line-tariff-range}
 use Rattle.survey.specs.Refusal.{when}
-use Rattle.survey.specs.Line.{factorAt, emptyRow}
+use Rattle.survey.specs.Line.{factorAt, wholeCm, emptyRow}
 use Rattle.survey.specs.Apply.{lineRow}
 use Rattle.survey.specs.declared.row.Row.{Row}
 use Rattle.survey.specs.declared.line.Line.{Line}
@@ -30,10 +31,10 @@ abbrev to-heights : Line → Report Row → Report Row
 to-heights l next = cond (eqb (l .tally .n) 0) (gives (emptyRow l)) (when (eqb (l .heights .number) 0) 12 next)
 
 abbrev to-factor : List ℕ → Line → (ℕ → Report Row) → Report Row
-to-factor factors l next = to-heights l (mean (l .tally .n) (l .tally .squares) then λ d. when (eqb (factorAt factors (d / 10)) 0) 14 (next d))
+to-factor factors l next = to-heights l (mean (l .tally .n) (l .tally .squares) then λ d. when (eqb (factorAt factors (wholeCm d)) 0) 14 (next d))
 
 abbrev to-number : List ℕ → Line → (ℕ → ℕ → Report Row) → Report Row
-to-number factors l next = to-factor factors l (λ d. trees (l .tally .n) (l .p) (l .q) then λ N. unless (leb N 100000000) 15 (next d N))
+to-number factors l next = to-factor factors l (λ d. trees (l .tally .n) (l .p) (l .q) then λ N. unless (leb N mostEstimated) 15 (next d N))
 
 -- ---- where these checks are passed, the report is what follows
 

@@ -3,10 +3,11 @@ use mathlib.Core.Path.{_≡_, _∙_, sym, ap}
 use borrow.Author.Tests.{le-leb, lt-leb}
 use Rattle.biomass.specs.Whole.{inside}
 use Rattle.biomass.specs.Report.{Report, gives, unless}
+use Rattle.biomass.specs.Limits.{greatestArea}
 use Rattle.biomass.specs.Law.Report.{refuses, goes-on, held}
 use Rattle.survey.specs.Refusal.{when}
 use Rattle.survey.specs.Line.{begun}
-use Rattle.survey.specs.Survey.{leaves, declared, opened, withOpened, openLine}
+use Rattle.survey.specs.Survey.{leaves, withOpened, declared, opened, openLine}
 use Rattle.survey.specs.declared.command.Species.{Species}
 use Rattle.survey.specs.declared.survey.Survey.{Survey}
 use Rattle.survey.proofs.Check.{stop-when, past-when, id-declared}
@@ -18,10 +19,10 @@ abbrev to-1 : tie.Start → Report Survey → Report Survey
 to-1 s next = when (s .args .self .ended) 5 next
 
 abbrev to-2 : tie.Start → Report Survey → Report Survey
-to-2 s next = to-1 s (unless (inside 1 (s .args .p) 100000000) 6 next)
+to-2 s next = to-1 s (unless (inside 1 (s .args .p) greatestArea) 6 next)
 
 abbrev to-3 : tie.Start → Report Survey → Report Survey
-to-3 s next = to-2 s (unless (inside 1 (s .args .q) 100000000) 6 next)
+to-3 s next = to-2 s (unless (inside 1 (s .args .q) greatestArea) 6 next)
 
 abbrev to-4 : tie.Start → Report Survey → Report Survey
 to-4 s next = to-3 s (when (s .args .self .active) 9 next)

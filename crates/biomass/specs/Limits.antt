@@ -1,0 +1,16 @@
+-- The limits of a line and of its areas: src/limits.rt.
+use Prim.Native.Nat.{ℕ}
+
+-- "Limits: .. 1,000,000 measured trees and 1,000 height trees a line; 1,000,000 estimated trees a line.", these in hundredths
+abbrev pub mostMeasured : ℕ
+mostMeasured = 1000000
+
+abbrev pub mostHeights : ℕ
+mostHeights = 1000
+
+abbrev pub mostEstimated : ℕ
+mostEstimated = 100000000
+
+-- "p (4), q (4), both 1 to 100,000,000"
+abbrev pub greatestArea : ℕ
+greatestArea = 100000000
