@@ -1,7 +1,8 @@
 -- What is proved of the definitions, each law once, for this crate's proofs and for the layer above.
 -- The layer above uses:
 --     Exact: row-not-under, row-not-over      the exact row lies from its low to its high, whatever fractions are given; of a tree and its parts too
---     Exact: row-den, tree-den                and its denominator is above 0
+--     Exact: low-not-under, high-not-over     the same of each end by itself, with its own number of trees
+--     Exact: row-den, tree-den                the exact row's denominator is above 0
 --     Exact: tree-ordered                     the exact tree with fractions not above the powers is not above the one with fractions not below them
 --     Power: w-not-above, next-w-not-below    and there are such fractions: w units of 10^-5 and w + 1 of them; of y too
 --     Tree: row-bounds, tree-bounds           how far apart the ends are, and how great they can be; the parts' are stem-bounded, crown-bounded, root-bounded

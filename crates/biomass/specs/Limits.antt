@@ -1,13 +1,14 @@
 -- The limits of a line and of its areas: src/limits.rt.
 use Prim.Native.Nat.{ℕ}
 
--- "Limits: .. 1,000,000 measured trees and 1,000 height trees a line; 1,000,000 estimated trees a line.", these in hundredths
+-- "Limits: .. 1,000,000 measured trees and 1,000 height trees a line; 1,000,000 estimated trees a line."
 abbrev pub mostMeasured : ℕ
 mostMeasured = 1000000
 
 abbrev pub mostHeights : ℕ
 mostHeights = 1000
 
+-- in hundredths, as N is
 abbrev pub mostEstimated : ℕ
 mostEstimated = 100000000
 

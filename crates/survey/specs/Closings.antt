@@ -4,12 +4,12 @@ use Prim.Native.Nat.{ℕ}
 use mathlib.Core.List.{List, [], _∷_, _++_}
 use Rattle.biomass.specs.Report.{Report, refused, gives}
 use Rattle.survey.specs.Book.{reach}
-use Rattle.survey.specs.Survey.{fresh}
+use Rattle.survey.specs.Survey.{leaves, fresh}
 use Rattle.survey.specs.AsWritten.{asWritten}
 use Rattle.survey.specs.declared.command.Command.{Command}
 use Rattle.survey.specs.declared.survey.Survey.{Survey}
 
--- the closing that a command is, if it is one
+-- the closing that a command is, if it is one and is taken
 abbrev pub closing : Command → Survey → List Survey
 closing (Command.Species id species) s = []
 closing (Command.Factor cm factor) s = []
@@ -19,15 +19,15 @@ closing (Command.Height cm tenths) s = []
 closing Command.Close s = s ∷ []
 closing Command.End s = []
 
-abbrev pub ifTaken : Report Survey → (Survey → List Survey) → List Survey
-ifTaken (refused n) rest = []
-ifTaken (gives t) rest = rest t
+abbrev pub ifTaken : Report Survey → List Survey → List Survey
+ifTaken (refused n) ss = []
+ifTaken (gives t) ss = ss
 
--- the closings of commands that are taken one after the other, by document 01's text, up to the first that is refused
+-- those of commands that are applied one after the other, by document 01's text; one that is refused closes nothing and leaves the survey as it was
 unfoldable pub closings : List Command → Survey → List Survey
 closings [] s = []
-closings (c ∷ cs) s = ifTaken (asWritten c s) λ t. closing c s ++ closings cs t
+closings (c ∷ cs) s = ifTaken (asWritten c s) (closing c s) ++ closings cs (leaves s (asWritten c s) .survey)
 
--- those of the commands that a book reads as, from a fresh survey on: the lines of the book, "in closing order"
+-- and of the commands that a book reads as, from a fresh survey on: the lines of the book, "in closing order"
 unfoldable pub closingsOf : List ℕ → List Survey
 closingsOf book = closings (reach book 0 .commands) fresh

@@ -23,9 +23,10 @@
 --     Playing: kept-to-the-end                what every command keeps is kept to the end of the book
 --     Playing: end-at-length, one-at-length, place-of-command, place-in-book      a refused book stops at its end with 1 alone, and with any other number at one of its bytes
 --     Playing: play-as-written                a book comes to what it comes to by document 01's text alone
---     Playing: play-of-list, play-reads       a book given as its commands plays as they do, and one that is accepted as the commands that it reads as
+--     Playing: play-of-list                   and a book given as its commands plays as they do
+--     Playing: play-reaches                   a book that is accepted comes to the survey that the commands which it reads as reach
 --     Closing: closes-to                      closing leaves the row of the open line, which steps 4 to 7 answer
---     Closings: rows-are, rows-of-list        the rows of an accepted book, or of a list of commands, are those of its closings, in their order
+--     Closings: rows-of-commands, rows-are    the rows that a list of commands leaves, and so those of an accepted book, are those of its closings, in their order
 --     Closings: closings-of-list              and a list's book has the list's closings
 --     Rows: rows-fit, rows-read-back          no figure of an accepted book's rows is cut off in the sheet, which gives the rows back
 --     Total: total-applied, sheet-applied     the answer of totalling and the sheet, which are those of document 01's text, are those of `apply`
@@ -36,7 +37,8 @@
 --     Demand3: total-den                      and its comparisons with the exact total are comparisons: no denominator is 0
 --     NotVacuous: some-not-above, some-not-below      demand 3 is not empty: whatever the lines, there are fractions not above and not below the powers,
 --     NotVacuous: totals-ordered, low-not-above-high      their totals are in order, and the low of every accepted book is not above its high
---     Listing: listing-totalled, listing-sheet, listing-lines     totalling the listing gives what document 01 prints of it
+--     Listing: listing-totalled, listing-sheet                totalling the listing gives what document 01 prints of it
+--     Listing: listing-accepted, listing-lines, listing-rows  it is accepted by the text, with two lines, which give its two rows
 --     WrongPrograms                           document 01's six wrong programs and its low of 0, and that what totalling promises contradicts each
 --     Witness                                 two of them again, at one command, and that what applying promises contradicts them
 

@@ -25,9 +25,10 @@ ghost use Rattle.biomass.specs.Law.Report.{Inside};
 ghost use Rattle.survey.specs.Line.{begun, emptyRow};
 ghost use Rattle.survey.specs.Apply.{noted, rowed, measured, height, worked, lineRow};
 
-// What the squares and the tariffs of a line add up to at most: those of trees of 100 cm, and of tariffs of 50.
+// What the squares of a line add up to at most: no class is above 100 cm.
 const MOST_SQUARES: u64 = 10_000 * MOST_MEASURED;
 
+// And the tariffs of its height trees: none is above 50.
 const MOST_TARIFFS: u64 = 50 * MOST_HEIGHTS;
 
 // Measured trees: how many, and their classes in cm, squared and added.

@@ -1,28 +1,26 @@
 -- The rows of an accepted book are those of its closings, one after the other: each command that is taken leaves the rows as they stand, and a closing puts
--- the row of its open line after them (Law.Closing). The same of a list of commands, and the closings of a list's book are the list's own.
-use Prim.Native.Nat.{ℕ, _+_}
+-- the row of its open line after them (Law.Closing). It is so of every list of commands, accepted or not, and the closings of a list's book are the list's.
+use Prim.Native.Nat.{ℕ}
 use native.Mathlib.Numerals.{add-one}
 use native.Mathlib.Omega.{arith}
-use mathlib.Core.Path.{_≡_, _∙_, sym, ap}
+use mathlib.Core.Path.{_≡_, _∙_, refl, sym, ap}
 use mathlib.Core.List.{List, [], _∷_, _++_, map, map-append, append-assoc, append-nil}
-use lib.ListN.{length}
 use lib.Seq.{take-suc-set}
-use Rattle.biomass.specs.Report.{gives}
-use Rattle.survey.specs.Command.{encode}
+use Rattle.biomass.specs.Report.{Report, refused, gives}
 use Rattle.survey.specs.Book.{encodeAll, Reach, reach}
-use Rattle.survey.specs.Survey.{fresh, estimate, closingRow}
+use Rattle.survey.specs.Survey.{leaves, fresh, estimate, closingRow}
 use Rattle.survey.specs.AsWritten.{asWritten}
-use Rattle.survey.specs.Closings.{closing, closings, closingsOf}
-use Rattle.survey.specs.Apply.{apply}
+use Rattle.survey.specs.Closings.{closing, ifTaken, closings, closingsOf}
+use Rattle.survey.specs.Apply.{apply, reached}
 use Rattle.survey.specs.Valid.{Valid}
-use Rattle.survey.specs.Playing.{ended, stopped, playBy, playList}
+use Rattle.survey.specs.Playing.{ended, playBy}
 use Rattle.survey.specs.Sheet.{rowsOf}
 use Rattle.survey.specs.Law.Taken.{declare-gives, factor-gives, open-gives, measure-gives, height-gives, finish-gives}
 use Rattle.survey.specs.Law.AsWritten.{as-written}
 use Rattle.survey.specs.Law.Closing.{Worked, closes-to}
-use Rattle.survey.specs.Law.Valid.{fresh-valid, apply-valid}
+use Rattle.survey.specs.Law.Valid.{fresh-valid, after-valid}
 use Rattle.survey.specs.Law.Reach.{AllFit, reach-of-list}
-use Rattle.survey.specs.Law.Playing.{cond-cases, met-cases, is-stopped, survey-is, play-as-written, play-reads}
+use Rattle.survey.specs.Law.Playing.{play-as-written, play-reaches}
 use Rattle.survey.specs.declared.command.Command.{Command}
 use Rattle.survey.specs.declared.row.Row.{Row}
 use Rattle.survey.specs.declared.survey.Survey.{Survey}
@@ -73,41 +71,38 @@ one-then {s} {ss} {us} a b =
       closed = all-closed (a .closed) (b .closed);
     }
 
--- a command that is taken, and then the others
-taken-then : (c : Command) (cs : List Command) (s t u : Survey) → Valid s → apply c s ≡ gives t → Between t u (closings cs t) → Between s u (closings (c ∷ cs) s)
-unfolding closings
-taken-then c cs s t u v e rest =
-    let text : asWritten c s ≡ gives t = sym (as-written c s v) ∙ e in
-    rw text (one-then (of-command c s t v e) rest)
+-- a command that is taken or refused
+of-report : (c : Command) (s : Survey) (r : Report Survey) → Valid s → apply c s ≡ r → Between s (leaves s r .survey) (ifTaken r (closing c s))
+of-report c s (refused n) v e = same-rows {s = s} refl
+of-report c s (gives t) v e = of-command c s t v e
 
-list-between : (cs : List Command) (at : ℕ) (s t : Survey) → Valid s → playList cs at s ≡ ended t → Between s t (closings cs s)
-unfolding playList closings
-list-between [] at s t v =
-    cond-cases (λ p. p ≡ ended t → Between s t []) (s .ended) (ended s) (stopped 1 at)
-    (λ is-ended e. same-rows (ap rowsOf (sym (survey-is e)))) (λ not-ended e. is-stopped e)
-list-between (c ∷ cs) at s t v =
-    met-cases (λ p. p ≡ ended t → Between s t (closings (c ∷ cs) s)) at (apply c s) _ (λ n refuses e. is-stopped e)
-    (λ u gave e. taken-then c cs s u t v gave (list-between cs (at + length (encode c)) u t (apply-valid c s u v gave) e))
+commands-between : (cs : List Command) (s : Survey) → Valid s → Between s (reached cs s) (closings cs s)
+unfolding reached closings
+commands-between [] s v = same-rows {s = s} refl
+commands-between (c ∷ cs) s v =
+    rw (← as-written c s v)
+    (one-then (of-report c s (apply c s) v refl) (commands-between cs (leaves s (apply c s) .survey) (after-valid c s v)))
 
 -- ---- from a fresh survey on
 
--- the rows of a list of commands that is accepted are those of its closings, "in closing order"
-pub rows-of-list : (cs : List Command) (t : Survey) → playList cs 0 fresh ≡ ended t → rowsOf t ≡ map closingRow (closings cs fresh)
+-- whatever the commands, the rows of the survey that they reach are those of its closings, "in closing order"
+pub rows-of-commands : (cs : List Command) → rowsOf (reached cs fresh) ≡ map closingRow (closings cs fresh)
 unfolding fresh
-rows-of-list cs t accepted = list-between cs 0 fresh t fresh-valid accepted .rows
+rows-of-commands cs = commands-between cs fresh fresh-valid .rows
 
 module _ (book : List ℕ) (t : Survey) (accepted : playBy asWritten book ≡ ended t) where
-  reads : playList (reach book 0 .commands) 0 fresh ≡ ended t
-  reads = play-reads book t (play-as-written book ∙ accepted)
+  reads : reached (reach book 0 .commands) fresh ≡ t
+  reads = play-reaches book t (play-as-written book ∙ accepted)
 
   -- and so are those of an accepted book
   pub rows-are : rowsOf t ≡ map closingRow (closingsOf book)
   unfolding closingsOf
-  rows-are = rows-of-list (reach book 0 .commands) t reads
+  rows-are = ap rowsOf (sym reads) ∙ rows-of-commands (reach book 0 .commands)
 
-  pub all-lines-closed : AllClosed (closingsOf book)
-  unfolding closingsOf
-  all-lines-closed = list-between (reach book 0 .commands) 0 fresh t fresh-valid reads .closed
+-- whose lines were worked
+pub all-lines-closed : (book : List ℕ) → AllClosed (closingsOf book)
+unfolding closingsOf
+all-lines-closed book = commands-between (reach book 0 .commands) fresh fresh-valid .closed
 
 -- a list's book has the list's closings
 pub closings-of-list : (cs : List Command) → AllFit cs → closingsOf (encodeAll cs) ≡ closings cs fresh

@@ -196,12 +196,12 @@ module _ (book : List ℕ) (s : Survey) (accepted : play book ≡ ended s) where
       let are : rows ≡ map closingRow (closingsOf book) = rows-are book s by-text in
       let small : RowsSmall (map closingRow (closingsOf book)) = subst RowsSmall are (rows-small s v) in
       let number : length (map closingRow (closingsOf book)) ≤ mostLines = subst (λ (rs : List Row). length rs ≤ mostLines) are (rows-at-most s v) in
-      rw are (demand3 (closingsOf book) (all-lines-closed book s by-text) small number)
+      rw are (demand3 (closingsOf book) (all-lines-closed book) small number)
 
   -- and "the N of all lines added", which comes back, is that of these lines
   pub trees-are : totalOf (rowsOf s) .trees ≡ added (linesOf book)
   unfolding linesOf totalOf
-  trees-are = rw (rows-are book s by-text) (sym (added-is (all-lines-closed book s by-text)))
+  trees-are = rw (rows-are book s by-text) (sym (added-is (all-lines-closed book)))
 
 played-demanded : (book : List ℕ) (p : Played) → play book ≡ p → Demanded book (answerOf p)
 played-demanded book (stopped n at) e = tt

@@ -1,9 +1,9 @@
 -- Totalling the listing gives what document 01 prints of it. All of the book is numbers, so reading it, applying its commands and working its rows compute:
 -- one equation gives the survey at its end (`listing-played`), and the answer, the sheet and the lines are read off it.
 use Prim.Native.Nat.{ℕ, _*_, _≤_}
-use mathlib.Core.Path.{_≡_, _∙_, refl}
+use mathlib.Core.Path.{_≡_, _∙_, refl, sym}
 use mathlib.Core.Bool.{true, false}
-use mathlib.Core.List.{List, [], _∷_, _++_}
+use mathlib.Core.List.{List, [], _∷_, _++_, map}
 use lib.ListN.{length, drop, set, replicate}
 use borrow.Author.Tests.{le-ltb}
 use Rattle.biomass.specs.Whole.{greatest}
@@ -19,13 +19,16 @@ use Rattle.survey.specs.Writing.{laidAt}
 use Rattle.survey.specs.Book.{encodeAll, reachUpTo, reach}
 use Rattle.survey.specs.Line.{begun, treeWith, Estimate, noTrees, emptyRow}
 use Rattle.survey.specs.Survey.{noLine, fresh, declare, giveFactor, opened, openLine, measure, giveHeight, estimate, closingRow, close, finish}
+use Rattle.survey.specs.AsWritten.{asWritten}
 use Rattle.survey.specs.Closings.{closings, closingsOf}
 use Rattle.survey.specs.Apply.{measured, height, worked, lineRow, applyMeasured, applyHeight, kept, applyClose}
-use Rattle.survey.specs.Playing.{ended, stepBy, playUpToBy, play}
+use Rattle.survey.specs.Playing.{ended, stepBy, playUpToBy, playBy, play}
 use Rattle.survey.specs.Sheet.{rowLength, sheetLength, rowBytes, sheetBytes}
 use Rattle.survey.specs.Total.{totalled, sumOf, totalOf, total, sheetAfter}
 use Rattle.survey.specs.Demand3.{linesOf}
 use Rattle.survey.specs.Listing.{listed, listing, listingTotals, row1, row2}
+use Rattle.survey.specs.Law.Playing.{play-as-written}
+use Rattle.survey.specs.Law.Closings.{rows-are}
 use Rattle.survey.specs.Law.Total.{total-applied, sheet-applied}
 use Rattle.survey.specs.declared.survey.Survey.{Survey}
 
@@ -59,6 +62,10 @@ unfolding
     stepBy playUpToBy play listingSurvey
 listing-played = refl
 
+-- and so by the text
+pub listing-accepted : playBy asWritten listing ≡ ended listingSurvey
+listing-accepted = sym (play-as-written listing) ∙ listing-played
+
 -- so its totals are those printed, on every sheet that is not too short
 pub listing-totalled : (sheet : List ℕ) → sheetLength ≤ length sheet → total listing sheet ≡ totalled listingTotals
 unfolding totalOf sumOf listingSurvey
@@ -76,3 +83,8 @@ unfolding
     fresh declare giveFactor opened openLine measure giveHeight close finish
     greatest meanOf singleTariff estimate closingRow linesOf closingsOf closings
 listing-lines = refl
+
+-- which give its rows
+pub listing-rows : row1 ∷ row2 ∷ [] ≡ map closingRow (closingsOf listing)
+unfolding listingSurvey
+listing-rows = rows-are listing listingSurvey listing-accepted

@@ -9,7 +9,7 @@ use native.Mathlib.Decide.{decLe}
 use native.Mathlib.Omega.{arith}
 use mathlib.Core.Path.{_≡_, _∙_, refl, sym, ap, ap₂, subst}
 use mathlib.Core.Bool.{Bool, true, false, cond, false≢true}
-use mathlib.Core.List.{List, [], _∷_, _++_}
+use mathlib.Core.List.{List, _∷_, _++_}
 use lib.ListN.{length, length-append}
 use lib.Dec.{ltb}
 use borrow.Author.Tests.{lt-ltb, le-ltb, ltb-true, ltb-false}
@@ -20,9 +20,9 @@ use Rattle.survey.specs.Refusal.{when}
 use Rattle.survey.specs.Command.{encode}
 use Rattle.survey.specs.Reading.{read}
 use Rattle.survey.specs.Book.{encodeAll, reach}
-use Rattle.survey.specs.Survey.{fresh, withOpened, withLine, declare, giveFactor, openLine, finish}
+use Rattle.survey.specs.Survey.{leaves, fresh, withOpened, withLine, declare, giveFactor, openLine, finish}
 use Rattle.survey.specs.AsWritten.{asWritten, isIn}
-use Rattle.survey.specs.Apply.{measured, height, applyMeasured, applyHeight, applyClose, apply}
+use Rattle.survey.specs.Apply.{measured, height, applyMeasured, applyHeight, applyClose, apply, reached}
 use Rattle.survey.specs.Valid.{Valid}
 use Rattle.survey.specs.Playing.{Played, ended, stopped, takenTo, stepBy, step, met, afterEnd, playUpToBy, playUpTo, playFrom, playBy, play, playList}
 use Rattle.survey.specs.Noting.{Note, ofTheLine, notOfTheLine, notedTo, noteOf, note}
@@ -198,19 +198,19 @@ step-stops book at s n inside e = by-place (decLe (length book) at)
     by-place (no some-left) = let before : at < length book = lt-of-not-le some-left in in-book (step-declines book at s before n e) before
 
 -- a book that is stopped is not played to its end, and is played to one survey
-pub is-stopped : {X : Type 0} {n at : ℕ} {s : Survey} → stopped n at ≡ ended s → X
+is-stopped : {X : Type 0} {n at : ℕ} {s : Survey} → stopped n at ≡ ended s → X
 is-stopped e = let clash : _≡_ {A = ℕ} 0 1 = cc in absurd (omega arith)
 
-pub survey-is : {s t : Survey} → ended s ≡ ended t → s ≡ t
+survey-is : {s t : Survey} → ended s ≡ ended t → s ≡ t
 survey-is e = cc
 
 -- what holds either way of a test, and whatever comes of a command
 module _ (P : Played → Type 0) where
-  pub cond-cases : (test : Bool) (p q : Played) → (test ≡ true → P p) → (test ≡ false → P q) → P (cond test p q)
+  cond-cases : (test : Bool) (p q : Played) → (test ≡ true → P p) → (test ≡ false → P q) → P (cond test p q)
   cond-cases true p q this other = this refl
   cond-cases false p q this other = other refl
 
-  pub met-cases : {A : Type 0} (at : ℕ) (r : Report A) (f : A → Played)
+  met-cases : {A : Type 0} (at : ℕ) (r : Report A) (f : A → Played)
       → ((n : ℕ) → r ≡ refused n → P (stopped n at)) → ((a : A) → r ≡ gives a → P (f a)) → P (met at r f)
   met-cases at (refused n) f stops goes-on = stops n refl
   met-cases at (gives a) f stops goes-on = goes-on a refl
@@ -348,29 +348,27 @@ pub play-of-list : (cs : List Command) → AllFit cs → play (encodeAll cs) ≡
 unfolding play
 play-of-list cs fs = let book = encodeAll cs in plays-list book 0 fresh cs fs (stands-itself book) (omega arith)
 
--- ---- a book that is accepted plays as the commands that it reads as
+-- ---- a book that is accepted comes to the survey that the commands which it reads as reach
 
--- after 07 no command is left
-ends-here : (s : Survey) (from : ℕ) → s .ended ≡ true → playList [] from s ≡ ended s
-unfolding playList
-ends-here s from = ap (λ (b : Bool). cond b (ended s) (stopped 1 from))
+reached-on : (c : Command) (cs : List Command) (s t : Survey) → apply c s ≡ gives t → reached (c ∷ cs) s ≡ reached cs t
+unfolding reached
+reached-on c cs s t = ap (λ (r : Report Survey). reached cs (leaves s r .survey))
 
-reads-on : (most : ℕ) (book : List ℕ) (at : ℕ) (s t : Survey) → playUpTo most book at s ≡ ended t → (from : ℕ)
-    → playList (reach book at .commands) from s ≡ ended t
-unfolding playUpToBy playList
-reads-on zero book at s t = λ e. is-stopped e
-reads-on (suc most) book at s t =
-    let Goal : Played → Type 0 = λ p. p ≡ ended t → (from : ℕ) → playList (reach book at .commands) from s ≡ ended t in
+reaches : (most : ℕ) (book : List ℕ) (at : ℕ) (s t : Survey) → playUpTo most book at s ≡ ended t → reached (reach book at .commands) s ≡ t
+unfolding playUpToBy reached
+reaches zero book at s t = λ e. is-stopped e
+reaches (suc most) book at s t =
+    let Goal : Played → Type 0 = λ p. p ≡ ended t → reached (reach book at .commands) s ≡ t in
     cond-cases Goal (s .ended) _ _
     (λ is-ended.
-    cond-cases Goal (ltb at (length book)) _ _ (λ some-left e. is-stopped e) (λ none-left e from.
-    rw (reach-refused book at 1 (read-at-end book at (ltb-false at (length book) none-left))) (ends-here s from is-ended ∙ e)))
+    cond-cases Goal (ltb at (length book)) _ _ (λ some-left e. is-stopped e) (λ none-left e.
+    rw (reach-refused book at 1 (read-at-end book at (ltb-false at (length book) none-left))) (survey-is e)))
     (λ not-ended.
-    met-cases Goal at (step book at s) _ (λ n refuses e. is-stopped e) (λ r gave e from.
+    met-cases Goal at (step book at s) _ (λ n refuses e. is-stopped e) (λ r gave e.
     let k = taken book at s (r .0) (r .1) gave in
-    rw (reach-on book at (k .command) (r .1) (k .is-read), k .is-applied)
-    (reads-on most book (r .1) (r .0) t e (from + length (encode (k .command))))))
+    rw (reach-on book at (k .command) (r .1) (k .is-read))
+    (reached-on (k .command) (reach book (r .1) .commands) s (r .0) (k .is-applied) ∙ reaches most book (r .1) (r .0) t e)))
 
-pub play-reads : (book : List ℕ) (t : Survey) → play book ≡ ended t → playList (reach book 0 .commands) 0 fresh ≡ ended t
+pub play-reaches : (book : List ℕ) (t : Survey) → play book ≡ ended t → reached (reach book 0 .commands) fresh ≡ t
 unfolding play
-play-reads book t e = reads-on (suc (length book)) book 0 fresh t e 0
+play-reaches book t e = reaches (suc (length book)) book 0 fresh t e

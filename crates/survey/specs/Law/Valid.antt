@@ -259,15 +259,18 @@ apply-valid (Command.Height cm tenths) s t v e = height-valid s v t cm tenths e
 apply-valid Command.Close s t v e = close-valid s t v e
 apply-valid Command.End s t v e = finish-valid s v t e
 
--- so every survey that is reached from a fresh one is valid
-after-valid : (s : Survey) (r : Report Survey) → Valid s → ((t : Survey) → r ≡ gives t → Valid t) → Valid (leaves s r .survey)
-after-valid s (refused n) v taken = v
-after-valid s (gives t) v taken = taken t refl
+-- so a valid survey is left valid, whether a command is taken or refused, and every survey that is reached from a fresh one is valid
+pub after-valid : (c : Command) (s : Survey) → Valid s → Valid (leaves s (apply c s) .survey)
+after-valid c s v = by-report (apply c s) refl
+  where
+    by-report : (r : Report Survey) → apply c s ≡ r → Valid (leaves s r .survey)
+    by-report (refused n) e = v
+    by-report (gives t) e = apply-valid c s t v e
 
 reached-from-valid : (cs : List Command) (s : Survey) → Valid s → Valid (reached cs s)
 unfolding reached
 reached-from-valid [] s v = v
-reached-from-valid (c ∷ cs) s v = reached-from-valid cs (leaves s (apply c s) .survey) (after-valid s (apply c s) v (λ t. apply-valid c s t v))
+reached-from-valid (c ∷ cs) s v = reached-from-valid cs (leaves s (apply c s) .survey) (after-valid c s v)
 
 pub reached-valid : (cs : List Command) → Valid (reached cs fresh)
 reached-valid cs = reached-from-valid cs fresh fresh-valid
