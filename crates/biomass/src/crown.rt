@@ -31,11 +31,8 @@ const CROWN: [[i64; 3]; 8] = [
     [168_513, -411_550_464, 13_669_801],
 ];
 
-// The number of diameters on the curve.
-const POWERS: usize = (CROWN_LIMIT - LEAST_D + 1) as usize;
-
-// w for each of them: the diameter in cm to the power 2.4767, in units of 10^-5, cut off to a whole number.
-const POWER: [u64; POWERS] = [
+// w for each d from LEAST_D to CROWN_LIMIT: the diameter in cm to the power 2.4767, in units of 10^-5, cut off to a whole number.
+const POWER: [u64; 431] = [
     12_389_515,
     12_832_508,
     13_284_811,
