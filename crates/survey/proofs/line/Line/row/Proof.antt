@@ -1,5 +1,5 @@
--- `survey::line::Line::row` meets its contract: each test and each figure of the code is the definition's, in the same order. A mean that is given is at most
--- 1,000 tenths of a cm, so that the table of factors has a place for it.
+-- `survey::line::Line::row` meets its contract: each test and each figure of the code is the definition's, in the same order. A mean that is given is at most the
+-- greatest d, so that the table of factors has a place for it.
 use Prim.Native.Nat.{ℕ}
 use native.Mathlib.Omega.{arith}
 use mathlib.Core.Path.{_≡_, _∙_, sym, ap}
