@@ -31,6 +31,7 @@
 --     Rows: rows-fit, rows-read-back          no figure of an accepted book's rows is cut off in the sheet, which gives the rows back
 --     Total: total-applied, sheet-applied     the answer of totalling and the sheet, which are those of document 01's text, are those of `apply`
 --     Total: refusals-of-totalling            and totalling is refused with 1, 2, 3 or 5 to 16
+--     Total: place-of-refusal                 16 at 0, 1 at the book's length, and any other number at one of the book's bytes
 --     Sums: sums-small, project-gives         the sums of 32 rows, and eleven times them, fit 64 bits
 --     Demand3: demand3, demanded              demand 3, of up to 32 closings, and of what every book with every sheet is answered
 --     Demand3: trees-are                      "the N of all lines added" that comes back is that of demand 3's lines

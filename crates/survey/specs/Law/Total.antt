@@ -8,7 +8,7 @@ use Rattle.survey.specs.AsWritten.{isIn}
 use Rattle.survey.specs.Playing.{Played, ended, stopped, play}
 use Rattle.survey.specs.Total.{Answer, refusedAt, totalled, short, answerOf, answerInto, total, laidInto, sheetAfter}
 use Rattle.survey.specs.Law.Named.{in-other}
-use Rattle.survey.specs.Law.Playing.{inTheBook, stop-cases, play-stops, play-as-written}
+use Rattle.survey.specs.Law.Playing.{inTheBook, Stop, stop-cases, play-stops, play-as-written}
 
 -- "a book is accepted exactly when those rules accept it" (demand 2): totalling is defined by document 01's text, and playing the book by `apply`, with the
 -- checks that it has besides, comes to the same answer and the same sheet
@@ -46,3 +46,21 @@ played-named book (stopped n at) e =
 -- never with 0, which would stand for acceptance, nor with 4, nor with a number that document 01 does not have
 pub refusals-of-totalling : (book sheet : List ℕ) (n at : ℕ) → total book sheet ≡ refusedAt n at → isIn n ofTotalling ≡ true
 refusals-of-totalling book sheet n at e = subst Named e (of-answer book sheet Named refl (played-named book))
+
+-- ---- their places
+
+-- 16 has place 0; 1 has the book's length, and any other number the place of one of the book's bytes (Law.Playing: Stop)
+pub data Placed (book : List ℕ) (n at : ℕ) : Type 0 where
+  short-sheet : n ≡ 16 → at ≡ 0 → Placed book n at
+  by-book : Stop book n at → Placed book n at
+
+abbrev AnswerPlaced : List ℕ → Answer → Type 0
+AnswerPlaced book (refusedAt n at) = Placed book n at
+AnswerPlaced book (totalled t) = Unit
+
+played-placed : (book : List ℕ) (p : Played) → play book ≡ p → AnswerPlaced book (answerOf p)
+played-placed book (ended s) e = tt
+played-placed book (stopped n at) e = by-book (play-stops book n at e)
+
+pub place-of-refusal : (book sheet : List ℕ) (n at : ℕ) → total book sheet ≡ refusedAt n at → Placed book n at
+place-of-refusal book sheet n at e = subst (AnswerPlaced book) e (of-answer book sheet (AnswerPlaced book) (short-sheet refl refl) (played-placed book))
