@@ -13,9 +13,9 @@ use Rattle.biomass.specs.Mean.{mean}
 use Rattle.biomass.specs.Ends.{between}
 use Rattle.biomass.specs.Crown.{crown, crownEnds}
 use Rattle.biomass.specs.Root.{root, rootEnds}
-use Rattle.biomass.specs.declared.units.BiomassRange.{BiomassRange}
 use Rattle.biomass.specs.Law.Power.{y-is, greatestY}
 use Rattle.biomass.specs.Law.Mean.{mean-between}
+use Rattle.biomass.specs.declared.units.BiomassRange.{BiomassRange}
 
 -- the last group of the roots, and the last of the crowns
 abbrev pub redAlder : ℕ

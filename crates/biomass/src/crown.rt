@@ -14,9 +14,9 @@ ghost use mathlib.Core.List.{[]};
 ghost use lib.ListN.{getD};
 ghost use Rattle.biomass.specs.Report.{biomass};
 ghost use Rattle.biomass.specs.Units.{leastD, greatestD, crownLimit};
-ghost use Rattle.biomass.specs.Law.Report.{Inside};
 ghost use Rattle.biomass.specs.Ends.{range};
 ghost use Rattle.biomass.specs.Crown.{crown, crownTable, crownEnds, w};
+ghost use Rattle.biomass.specs.Law.Report.{Inside};
 
 // Larches, Corsican pine, lodgepole pine, Scots pine, firs and spruces and cedars and hemlocks, Douglas fir, beech, oak.
 // Each row: k of Table 5.2.2 in 10^-10 t, a and b of Table 5.2.3 in mg.

@@ -15,9 +15,9 @@ ghost use mathlib.Core.List.{[]};
 ghost use lib.ListN.{getD};
 ghost use Rattle.biomass.specs.Report.{biomass};
 ghost use Rattle.biomass.specs.Units.{leastD, greatestD, rootLimit};
-ghost use Rattle.biomass.specs.Law.Report.{Inside};
 ghost use Rattle.biomass.specs.Ends.{range};
 ghost use Rattle.biomass.specs.Root.{root, rootTable, rootEnds, y};
+ghost use Rattle.biomass.specs.Law.Report.{Inside};
 
 // Western red cedar and noble fir and Corsican pine, Norway spruce, grand fir and Scots pine and western hemlock,
 // Douglas fir and Japanese larch and lodgepole pine, Sitka spruce, red alder.

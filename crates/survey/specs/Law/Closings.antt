@@ -99,7 +99,7 @@ module _ (book : List ℕ) (t : Survey) (accepted : playBy asWritten book ≡ en
   unfolding closingsOf
   rows-are = ap rowsOf (sym reads) ∙ rows-of-commands (reach book 0 .commands)
 
--- whose lines were worked
+-- what is estimated of a book's lines was worked, whether it is accepted or not
 pub all-lines-closed : (book : List ℕ) → AllClosed (closingsOf book)
 unfolding closingsOf
 all-lines-closed book = commands-between (reach book 0 .commands) fresh fresh-valid .closed

@@ -1,6 +1,6 @@
 -- The fresh survey is valid, and every command that is taken leaves a valid survey valid: what it notes has passed its checks, and what was noted
 -- before stays as it was (Law.Once).
-use Prim.Native.Nat.{ℕ, zero, suc, _+_, _<_, zero-le}
+use Prim.Native.Nat.{ℕ, zero, suc, _<_, zero-le}
 use native.Mathlib.Numerals.{add-one}
 use native.Mathlib.Decide.{ℕ-discrete}
 use native.Mathlib.Omega.{arith}
