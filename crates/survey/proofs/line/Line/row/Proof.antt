@@ -17,7 +17,7 @@ use Rattle.biomass.specs.Law.Report.{stops, follows}
 use Rattle.biomass.specs.Law.Mean.{mean-gives}
 use Rattle.biomass.specs.Law.Tariff.{line-tariff-range}
 use Rattle.survey.specs.Refusal.{when}
-use Rattle.survey.specs.Line.{factorAt, wholeCm, emptyRow}
+use Rattle.survey.specs.Line.{factorFor, emptyRow}
 use Rattle.survey.specs.Apply.{lineRow}
 use Rattle.survey.specs.declared.row.Row.{Row}
 use Rattle.survey.specs.declared.line.Line.{Line}
@@ -31,7 +31,7 @@ abbrev to-heights : Line → Report Row → Report Row
 to-heights l next = cond (eqb (l .tally .n) 0) (gives (emptyRow l)) (when (eqb (l .heights .number) 0) 12 next)
 
 abbrev to-factor : List ℕ → Line → (ℕ → Report Row) → Report Row
-to-factor factors l next = to-heights l (mean (l .tally .n) (l .tally .squares) then λ d. when (eqb (factorAt factors (wholeCm d)) 0) 14 (next d))
+to-factor factors l next = to-heights l (mean (l .tally .n) (l .tally .squares) then λ d. when (eqb (factorFor factors d) 0) 14 (next d))
 
 abbrev to-number : List ℕ → Line → (ℕ → ℕ → Report Row) → Report Row
 to-number factors l next = to-factor factors l (λ d. trees (l .tally .n) (l .p) (l .q) then λ N. unless (leb N mostEstimated) 15 (next d N))
