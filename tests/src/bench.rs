@@ -20,28 +20,26 @@ const SETS: usize = 1_024;
 const SINGLE_TARIFF: Pair<2, Count> =
     Pair { ask: |at| proved::single_tariff(OAK, at), step: |at| steps::single_tariff(OAK, at) };
 
-/// How often a time is taken, for how long, and what a book of the greatest length may take, as a multiple of what
-/// `plain` takes.
+/// How often a time is taken, for how long, and whether the books have to be totalled in time.
 #[derive(Clone, Copy)]
 pub struct Pace {
     rounds: u32,
     sample: Duration,
-    most: f64,
+    in_time: bool,
 }
 
 /// Many short times: on a loaded machine some of them are not interrupted.
-pub const FULL: Pace = Pace { rounds: 60, sample: Duration::from_millis(4), most: 1.5 };
+pub const FULL: Pace = Pace { rounds: 60, sample: Duration::from_millis(4), in_time: true };
 
 /// Shows that all of it runs. Its times mean little, so nothing is asked of them.
-pub const QUICK: Pace = Pace { rounds: 1, sample: Duration::from_micros(100), most: f64::INFINITY };
+pub const QUICK: Pace = Pace { rounds: 1, sample: Duration::from_micros(100), in_time: false };
 
-/// True where the two agree, and a book of the greatest length is totalled in time.
+/// True where the two agree, and every book is totalled in time.
 pub fn run(pace: Pace) -> bool {
     let mut tally = Tally::default();
-    let worst = whole_books(pace, &mut tally);
+    whole_books(pace, &mut tally);
     longer_and_longer(pace, &mut tally);
     figures(pace, &mut tally);
-    tally.holds(worst <= pace.most, ("a book of the greatest length takes too long", worst, pace.most));
     tally.is_good()
 }
 
@@ -100,28 +98,24 @@ fn shown(nanoseconds: f64) -> String {
     }
 }
 
-/// The greatest ratio of the books of the greatest length.
-fn whole_books(pace: Pace, tally: &mut Tally) -> f64 {
+/// Each book, with what it may take as a multiple of what `plain` takes.
+fn whole_books(pace: Pace, tally: &mut Tally) {
     let largest = include_bytes!("../../examples/largest.book").to_vec();
     let all = [
-        ("document 01's listing", books::listing()),
-        ("32 lines", books::of_lines(32)),
-        ("1,000 height trees", books::of_height_trees(1_000)),
-        ("measured trees", books::of_length(books::LONGEST)),
-        ("examples/largest.book", largest),
+        ("document 01's listing", books::listing(), 5.0),
+        ("32 lines", books::of_lines(32), 4.0),
+        ("1,000 height trees", books::of_height_trees(1_000), 1.0),
+        ("measured trees", books::of_length(books::LONGEST), 1.0),
+        ("examples/largest.book", largest, 1.0),
     ];
     println!("{:<24}{:>9}{:>12}{:>12}{:>8}{:>16}", "totalling", "bytes", "library", "plain", "ratio", "library MB/s");
-    let mut worst = 0.0f64;
-    for (name, book) in all {
+    for (name, book, most) in all {
         let [library, plain] = pace.race_totals(tally, &book);
         let (bytes, ratio) = (book.len(), library / plain);
         let speed = 1e3 * bytes as f64 / library;
         println!("{name:<24}{bytes:>9}{:>12}{:>12}{ratio:>8.2}{speed:>16.0}", shown(library), shown(plain));
-        if bytes == books::LONGEST {
-            worst = worst.max(ratio);
-        }
+        tally.holds(ratio <= most || !pace.in_time, (name, "takes too long", ratio, most));
     }
-    worst
 }
 
 fn longer_and_longer(pace: Pace, tally: &mut Tally) {

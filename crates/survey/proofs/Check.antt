@@ -1,39 +1,32 @@
--- From a test of the code to a check of the definition: where the check fails, the report is its refusal, and where it is passed, what follows it.
--- (Law.Report of `biomass` has these for `if !answer`.)
-use Prim.Native.Nat.{ℕ, _+_, _-_, _≤_, _<_, zero-le, suc-le-suc}
+-- From a test of the code to a check of the definition: where the check fails, the report is its refusal, and where it is passed, what follows it. (Law.Report
+-- of `biomass` has these for `unless`, and for what a figure answers.)
+use Prim.Native.Nat.{ℕ, _+_, _-_, _≤_, _<_, zero-le}
 use lib.Dec.{leb}
-use mathlib.Core.Path.{_≡_, _∙_, refl, sym, ap}
-use mathlib.Core.Bool.{Bool, true, false, not}
+use mathlib.Core.Path.{_≡_, _∙_, sym, ap, subst}
+use mathlib.Core.Bool.{Bool, true, false, not, cond}
 use native.Mathlib.Omega.{arith}
-use borrow.Author.Tests.{le-leb, lt-leb}
+use borrow.Author.Tests.{le-leb, lt-leb, lt-ltb, le-ltb, not-true}
 use Rattle.biomass.specs.Whole.{inside}
-use Rattle.biomass.specs.Law.Report.{refuses, goes-on, true-inside}
-use Rattle.biomass.specs.Report.{Report, refused, unless}
-use Rattle.survey.specs.Refusal.{when}
-use Rattle.survey.specs.Survey.{speciesInRange, declared}
-use Rattle.survey.specs.Law.Checks.{declared-true, species-in-range}
+use Rattle.biomass.specs.Law.Report.{refuses, goes-on, held, stops, follows, true-inside}
+use Rattle.biomass.specs.Report.{Report, refused, _then_}
+use Rattle.survey.specs.Refusal.{number, when}
+use Rattle.survey.specs.Survey.{mostLines}
+use Rattle.survey.specs.Apply.{noted, rowed}
+use Rattle.survey.specs.Change.{HasPlace}
 use Rattle.survey.specs.declared.command.Species.{Species}
+use Rattle.survey.specs.declared.refusal.Refusal.{Refusal}
+use Rattle.survey.specs.declared.row.Row.{Row}
+use Rattle.survey.specs.declared.line.Line.{Line}
+use Rattle.survey.specs.declared.line.Noted.{Noted}
+use Rattle.survey.specs.declared.line.Closed.{Closed}
 use Rattle.survey.specs.declared.survey.Survey.{Survey}
+use Rattle.survey.specs.declared.change.Change.{Change}
 
 pub stop-when : {A : Type 0} {n : ℕ} {test : Bool} (next : Report A) → test ≡ true → refused n ≡ when test n next
 stop-when {n} next e = ap (λ (b : Bool). when b n next) (sym e)
 
 pub past-when : {A : Type 0} {test : Bool} {x : Report A} (n : ℕ) (next : Report A) → test ≡ false → x ≡ next → x ≡ when test n next
 past-when n next e r = r ∙ ap (λ (b : Bool). when b n next) (sym e)
-
-pub stop-unless : {A : Type 0} {n : ℕ} {test : Bool} (next : Report A) → test ≡ false → refused n ≡ unless test n next
-stop-unless {n} next e = ap (λ (b : Bool). unless b n next) (sym e)
-
-pub past-unless : {A : Type 0} {test : Bool} {x : Report A} (n : ℕ) (next : Report A) → test ≡ true → x ≡ next → x ≡ unless test n next
-past-unless n next e r = r ∙ ap (λ (b : Bool). unless b n next) (sym e)
-
--- the two tests before a command on the open line
-pub no-line : (s : Survey) (next : Report Survey) → s .ended ≡ false → not (s .active) ≡ true → refused 10 ≡ when (s .ended) 5 (unless (s .active) 10 next)
-no-line s next e none = past-when 5 _ e (refuses (s .active) next refl none)
-
-pub on-line : (s : Survey) {x : Report Survey} (next : Report Survey) → s .ended ≡ false → not (s .active) ≡ false → x ≡ next →
-    x ≡ when (s .ended) 5 (unless (s .active) 10 next)
-on-line s next e some r = past-when 5 _ e (goes-on (s .active) 10 next refl some r)
 
 -- a range from 0 on has one end to test
 pub up-to : (x hi : ℕ) → x ≤ hi → inside 0 x hi ≡ true
@@ -42,12 +35,58 @@ up-to x hi h = true-inside 0 x hi zero-le h
 pub above : (x hi : ℕ) → hi < x → inside 0 x hi ≡ false
 above x hi h = simp (le-leb 0 x zero-le, lt-leb x hi h)
 
--- no species in range, and none that is declared, has an id above 15
-pub id-in-range : (id : ℕ) (s : Species) → speciesInRange id s ≡ true → id < 16
-id-in-range id s e = suc-le-suc (species-in-range id s e .0 .most)
+-- a test whose answer the code has from a routine, whose promise says which test of the definition it is
+pub stop-told : {A : Type 0} {answer test : Bool} {n : ℕ} (next : Report A) → answer ≡ test → answer ≡ true → refused n ≡ when test n next
+stop-told next told e = stop-when next (sym told ∙ e)
 
-pub id-declared : (id : ℕ) (s : Survey) → declared id s ≡ true → id < 16
-id-declared id s e = suc-le-suc (declared-true id s e .in-table)
+pub past-told : {A : Type 0} {answer test : Bool} {x : Report A} (n : ℕ) (next : Report A) → answer ≡ test → answer ≡ false → x ≡ next → x ≡ when test n next
+past-told n next told e = past-when n next (sym told ∙ e)
+
+-- what follows a report of which a routine has answered a figure, or a refusal
+module _ {A : Type 0} {after : Report Line} {answer : Noted} (f : Line → Report A) (promise : noted answer ≡ after) where
+  pub follows-noted : {l : Line} {x : Report A} → answer ≡ Noted.Is l → x ≡ f l → x ≡ (after then f)
+  follows-noted is = follows after f (sym promise ∙ ap noted is)
+
+  pub stops-noted : {why : Refusal} → answer ≡ Noted.Refused why → refused (number why) ≡ (after then f)
+  stops-noted is = stops after f (sym promise ∙ ap noted is)
+
+module _ {A : Type 0} {row : Report Row} {answer : Closed} (f : Row → Report A) (promise : rowed answer ≡ row) where
+  pub follows-row : {r : Row} {x : Report A} → answer ≡ Closed.Is r → x ≡ f r → x ≡ (row then f)
+  follows-row is = follows row f (sym promise ∙ ap rowed is)
+
+  pub stops-row : {why : Refusal} → answer ≡ Closed.Refused why → refused (number why) ≡ (row then f)
+  stops-row is = stops row f (sym promise ∙ ap rowed is)
+
+-- With those of `biomass`, the rules for `search` that close the answers of a chain of checks, wherever in the code a check stands
+pub ruleset survey-checks =
+    (stop-when, past-when, stop-told, past-told, refuses, goes-on, follows-noted, stops-noted, follows-row, stops-row, le-leb, lt-leb, lt-ltb, le-ltb)
+
+-- What a change is known to be has its place in the survey's tables
+module _ {k : Change} (s : Survey) (place : HasPlace k s) where
+  pub species-place : {id : ℕ} {species : Species} → k ≡ Change.Species id species → id < 16
+  species-place is = subst (λ (d : Change). HasPlace d s) is place
+
+  pub factor-place : {cm factor : ℕ} → k ≡ Change.Factor cm factor → cm < 101
+  factor-place is = subst (λ (d : Change). HasPlace d s) is place
+
+  pub row-place : {r : Row} → k ≡ Change.Row r → s .closed < mostLines
+  row-place is = subst (λ (d : Change). HasPlace d s) is place
+
+-- A test of two parts: it fails where the first does, and is the second where the first holds
+pub fails : {test : Bool} (other : Bool) → test ≡ false → false ≡ cond test other false
+fails other e = ap (λ (b : Bool). cond b other false) (sym e)
+
+pub holds : {test x : Bool} (other : Bool) → test ≡ true → x ≡ other → x ≡ cond test other false
+holds other e r = r ∙ ap (λ (b : Bool). cond b other false) (sym e)
+
+-- by what a routine told of the first
+pub fails-told : {answer test : Bool} (other : Bool) → answer ≡ test → not answer ≡ true → false ≡ cond test other false
+fails-told other told e = fails other (sym told ∙ not-true _ e)
+
+pub holds-told : {answer test x : Bool} (other : Bool) → answer ≡ test → not answer ≡ false → x ≡ other → x ≡ cond test other false
+holds-told other told e = holds other (held told e)
+
+pub ruleset parts = (fails, holds, fails-told, holds-told, up-to, above, arith)
 
 -- whether x + y is at most a limit, as the code asks it without the sum
 pub over : (x y most : ℕ) → y ≤ most → most - y < x → leb (x + y) most ≡ false

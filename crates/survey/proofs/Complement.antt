@@ -10,6 +10,7 @@ use mir.Syntax.{w32}
 use mir.Val.{SFits, toZ, ofZ}
 use mir.Facts.{toZ-ofZ}
 use Rattle.biomass.specs.Law.Signed.{turn-negative}
+use Rattle.survey.specs.declared.command.Species.{Species}
 
 -- a number written to a local of 32 bits and read back
 abbrev pub word : ℤ → ℤ
@@ -17,6 +18,15 @@ word z = toZ w32 (ofZ w32 z)
 
 pub read-back : (z : ℤ) → mag z < 2 ^ 31 → word z ≡ z
 read-back z small = toZ-ofZ (record { sfits = small })
+
+-- and as a routine gave it; a species with the constants that were given
+pub given-back : {z w : ℤ} → mag z < 2 ^ 31 → z ≡ w → word z ≡ w
+given-back small is = read-back _ small ∙ is
+
+pub same-species : {crown root gravity : ℕ} {c1 c2 c3 c4 d1 d2 d3 d4 : ℤ} → c1 ≡ d1 → c2 ≡ d2 → c3 ≡ d3 → c4 ≡ d4
+    → _≡_ {A = Species} (record { crown = crown; root = root; gravity = gravity; c1 = c1; c2 = c2; c3 = c3; c4 = c4 })
+    (record { crown = crown; root = root; gravity = gravity; c1 = d1; c2 = d2; c3 = d3; c4 = d4 })
+same-species e1 e2 e3 e4 = cc
 
 -- a negative number, and −1 less it
 pub record Negative (x : ℤ) : Type 0 where

@@ -61,33 +61,37 @@ height cm tenths l =
 unfoldable pub worked : Line → ℕ → ℕ → ℕ → ℕ → Report Row
 worked l T d f N = row N (treeWith (l .species) T d f) then λ m. gives (rowWith l T d N m)
 
--- closing: d, N and T are worked by steps 2, 3 and 1, and what one of them declines (6), closing declines
-unfoldable pub lineRow : List ℕ → Line → Report Row
-lineRow factors l =
-    cond (eqb (l .tally .n) 0) (gives (emptyRow l))
-    (when (eqb (l .heights .number) 0) 12
-    (mean (l .tally .n) (l .tally .squares) then λ d.
+-- closing, where there are measured trees and height trees: d, N and T are worked by steps 2, 3 and 1, and what one of them declines (6), closing declines
+abbrev pub someRow : List ℕ → Line → Report Row
+someRow factors l =
+    mean (l .tally .n) (l .tally .squares) then λ d.
     when (eqb (factorFor factors d) 0) 14
     (trees (l .tally .n) (l .p) (l .q) then λ N.
     unless (leb N mostEstimated) 15
     (lineTariff (l .heights .tariffs) (l .heights .number) then λ T.
-    worked l T d (factorFor factors d) N))))
+    worked l T d (factorFor factors d) N))
+
+unfoldable pub lineRow : List ℕ → Line → Report Row
+lineRow factors l =
+    cond (eqb (l .tally .n) 0) (gives (emptyRow l))
+    (when (eqb (l .heights .number) 0) 12
+    (someRow factors l))
 
 -- ---- a survey
 
-unfoldable pub applyMeasured : ℕ → ℕ → Survey → Report Survey
-applyMeasured class count s =
+-- a command of the open line, with what becomes of the line
+abbrev pub onLine : Report Line → Survey → Report Survey
+onLine after s =
     when (s .ended) 5
     (unless (s .active) 10
-    (measured class count (s .line) then λ l.
+    (after then λ l.
     gives (withLine s l)))
 
+unfoldable pub applyMeasured : ℕ → ℕ → Survey → Report Survey
+applyMeasured class count s = onLine (measured class count (s .line)) s
+
 unfoldable pub applyHeight : ℕ → ℕ → Survey → Report Survey
-applyHeight cm tenths s =
-    when (s .ended) 5
-    (unless (s .active) 10
-    (height cm tenths (s .line) then λ l.
-    gives (withLine s l)))
+applyHeight cm tenths s = onLine (height cm tenths (s .line)) s
 
 -- the check declines a survey with a line open and 32 closed
 unfoldable pub kept : Row → Survey → Report Survey

@@ -9,6 +9,7 @@
 --     Reach: read-all-reach, reach-of-list    reading it whole answers the same; a list's encoding reads to its end, as the list
 --     Sheet: row-stands, rest-stays           the i-th row stands in its own bytes of the sheet, and no byte past the rows changes
 --     Sheet: row-reads-back                   a row that is laid is read back as it was
+--     Effect: effect                          what a command that is taken changes is a species, a factor, the line or the rows
 --     Valid: fresh-valid, apply-valid         a fresh survey is valid, and every command keeps a survey so; `reached-valid`: so every one that commands reach is
 --     AsWritten: as-written                   of a valid survey, applying is document 01's text, with no refusal but those that it names
 --     AsWritten: row-of-none                  the row of a line with n = 0 has no figure above 0
@@ -16,9 +17,11 @@
 --     Named: refusal-of-applying              the numbers of applying are 5 to 15
 --     Named: refusal-not-zero, refusal-from-five      and no refusal is taken for acceptance, nor for one of reading or writing
 --     Limit: limit-told, close-never          11 is told only at the limit, of any survey; closing tells it of no valid one
+--     Change: ended-refuses, decides          a book that has ended takes no command; what the code decides of a command is what applying it makes of the survey
+--     Change: own-applied                     and a command of the open line does to the survey what it does to the line
 --     Once: species-stay, factors-stay, rows-stay     what is given once never changes
 --     Playing: plays-refused, plays-on, plays-end, plays-past-end     how playing goes on from a place; `enough`: how many commands are allowed makes no difference
---     Playing: note-line, note-refused        an open line that is noted on its own
+--     Playing: plays-taken, plays-declined, plays-unread      and from a command whose change is known; `plays-noted`, `note-refused`: on an open line by itself
 --     Playing: play-valid, play-ended         a book is played to a valid survey, which has ended
 --     Playing: kept-to-the-end                what every command keeps is kept to the end of the book
 --     Playing: end-at-length, one-at-length, place-of-command, place-in-book      a refused book stops at its end with 1 alone, and with any other number at one of its bytes
@@ -49,17 +52,17 @@ pub mod RoundTrip
 pub mod Sheet
 pub mod Reach
 pub mod Book
--- checks that are passed and failed; a command that is taken, check by check; what each command is declined with
+-- checks that are passed and failed
 pub mod Checks
-pub mod Taken
-pub mod Declines
--- surveys
+-- surveys: applying a command is the text, and is deciding and changing; what is changed, and what a command is refused with
 pub mod AsWritten
+pub mod Change
 pub mod Closing
+pub mod Effect
 pub mod Once
-pub mod Limit
 pub mod Valid
 pub mod Named
+pub mod Limit
 pub mod Witness
 -- whole books, played from a fresh survey
 pub mod Playing

@@ -5,8 +5,7 @@ use mathlib.Core.List.{List}
 use Rattle.biomass.specs.Report.{Report, refused, gives, _then_}
 use Rattle.survey.specs.Refusal.{number}
 use Rattle.survey.specs.Reading.{read}
-use Rattle.survey.specs.Apply.{measured, height}
-use Rattle.survey.specs.declared.command.Command.{Command}
+use Rattle.survey.specs.Change.{Own, own, notOwn, ownOf}
 use Rattle.survey.specs.declared.line.Line.{Line}
 use Rattle.survey.specs.declared.playing.Noting.{Noting}
 
@@ -25,15 +24,9 @@ noting (Noting.Refused why) = refused (number why)
 abbrev pub notedTo : ℕ → Report Line → Report Note
 notedTo next line = line then λ l. gives (ofTheLine l next)
 
--- measured trees and height trees are the line's own
-abbrev pub noteOf : Command → ℕ → Line → Report Note
-noteOf (Command.Species id species) next l = gives notOfTheLine
-noteOf (Command.Factor cm factor) next l = gives notOfTheLine
-noteOf (Command.Open stratum species p q) next l = gives notOfTheLine
-noteOf (Command.Measured class count) next l = notedTo next (measured class count l)
-noteOf (Command.Height cm tenths) next l = notedTo next (height cm tenths l)
-noteOf Command.Close next l = gives notOfTheLine
-noteOf Command.End next l = gives notOfTheLine
+abbrev pub noteBy : ℕ → Own → Report Note
+noteBy next (own after) = notedTo next after
+noteBy next notOwn = gives notOfTheLine
 
 unfoldable pub note : List ℕ → ℕ → Line → Report Note
-note book at l = read book at then λ r. noteOf (r .0) (r .1) l
+note book at l = read book at then λ r. noteBy (r .1) (ownOf (r .0) l)

@@ -1,6 +1,7 @@
 -- "Totalling a book": its commands are applied to a fresh survey, one after the other, to the end of the book or to "the first refusal met, with the
 -- place of its command".
 use Prim.Native.Nat.{ℕ, zero, suc, _+_}
+use mathlib.Core.Path.{_≡_}
 use mathlib.Core.Bool.{cond}
 use mathlib.Core.List.{List, [], _∷_}
 use lib.ListN.{length}
@@ -15,19 +16,23 @@ use Rattle.survey.specs.declared.survey.Survey.{Survey}
 use Rattle.survey.specs.declared.command.Command.{Command}
 use Rattle.survey.specs.declared.survey.Outcome.{Outcome}
 use Rattle.survey.specs.declared.playing.Played as Code
+use Rattle.survey.specs.declared.playing.Halt.{Halt}
 
 -- the survey at the end of the book, or the number of the first refusal and the place of its command
 pub data Played : Type 0 where
   ended : Survey → Played
   stopped : ℕ → ℕ → Played
 
--- what the code answers
+-- what the code answers; and what its halt comes to, whatever the survey then
+abbrev pub playedAs : Survey → ℕ → Outcome → Played
+playedAs s at Outcome.Done = ended s
+playedAs s at (Outcome.Refused why) = stopped (number why) at
+
 abbrev pub played : Code.Played → Played
-played p = by-outcome (p .outcome)
-  where
-    by-outcome : Outcome → Played
-    by-outcome Outcome.Done = ended (p .survey)
-    by-outcome (Outcome.Refused why) = stopped (number why) (p .at)
+played p = playedAs (p .survey) (p .at) (p .outcome)
+
+abbrev pub Halts : Halt → (Survey → Played) → Type 0
+Halts r comes-to = (s : Survey) → playedAs s (r .at) (r .outcome) ≡ comes-to s
 
 -- The rules by which a command is applied to a survey: document 01's bare text (AsWritten), by which a book is totalled, or `apply`, which the code does
 -- and by which each book comes to the same (Law.Playing: play-as-written)
@@ -40,14 +45,6 @@ takenTo next after = after then λ t. gives (t, next)
 
 unfoldable pub stepBy : Rules → List ℕ → ℕ → Survey → Report (Survey × ℕ)
 stepBy rules book at s = read book at then λ r. takenTo (r .1) (rules (r .0) s)
-
--- what the code answers
-abbrev pub stepped : Code.Played → Report (Survey × ℕ)
-stepped p = by-outcome (p .outcome)
-  where
-    by-outcome : Outcome → Report (Survey × ℕ)
-    by-outcome Outcome.Done = gives (p .survey, p .at)
-    by-outcome (Outcome.Refused why) = refused (number why)
 
 -- what follows a command, unless it is refused, at its place
 abbrev pub met : {A : Type 0} → ℕ → Report A → (A → Played) → Played

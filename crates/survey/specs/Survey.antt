@@ -107,26 +107,39 @@ withEnd s = withState s (s .active) (s .line) true
 abbrev pub speciesInRange : ℕ → Species → Bool
 speciesInRange id s = cond (inside 0 id 15) (cond (inside 0 (s .crown) 7) (cond (inside 0 (s .root) 5) (inside 1 (s .gravity) 100) false) false) false
 
--- "8 species undeclared, an id above 15 included"
+-- "8 species undeclared, an id above 15 included": by what stands at its place
+abbrev pub declaredAs : ℕ → Species → Bool
+declaredAs id there = cond (inside 0 id 15) (ltb 0 (there .gravity)) false
+
 abbrev pub declared : ℕ → Survey → Bool
-declared id s = cond (inside 0 id 15) (ltb 0 (speciesAt s id .gravity)) false
+declared id s = declaredAs id (speciesAt s id)
 
 -- "Species and factor: 6 operand outside its range; 7 already given."
+abbrev pub declaring : {A : Type 0} → ℕ → Species → Bool → Report A → Report A
+declaring id species given next =
+    unless (speciesInRange id species) 6
+    (when given 7
+    next)
+
 unfoldable pub declare : ℕ → Species → Survey → Report Survey
 declare id species s =
     when (s .ended) 5
-    (unless (speciesInRange id species) 6
-    (when (declared id s) 7
-    (gives (withSpecies s id species))))
+    (declaring id species (declared id s)
+    (gives (withSpecies s id species)))
 
 -- "whole cm (1, 7 to 100), factor in hundredths (1, 100 to 200)"
+abbrev pub giving : {A : Type 0} → ℕ → ℕ → Bool → Report A → Report A
+giving cm factor given next =
+    unless (inside 7 cm 100) 6
+    (unless (inside 100 factor 200) 6
+    (when given 7
+    next))
+
 unfoldable pub giveFactor : ℕ → ℕ → Survey → Report Survey
 giveFactor cm factor s =
     when (s .ended) 5
-    (unless (inside 7 cm 100) 6
-    (unless (inside 100 factor 200) 6
-    (when (ltb 0 (factorAt (s .factors) cm)) 7
-    (gives (withFactor s cm factor)))))
+    (giving cm factor (ltb 0 (factorAt (s .factors) cm))
+    (gives (withFactor s cm factor)))
 
 -- "7 same stratum and species already opened": where no line is open, those opened are those closed, and each has its row
 abbrev pub isLine : ℕ → ℕ → Row → Bool
@@ -140,17 +153,24 @@ unfoldable pub opened : ℕ → ℕ → Survey → Bool
 opened stratum id s = anyLine stratum id (take (s .closed) (s .rows))
 
 -- "03 open a line: stratum (1, any), species (1), p (4), q (4), both 1 to 100,000,000."
+abbrev pub areasInRange : ℕ → ℕ → Bool
+areasInRange p q = cond (inside 1 p greatestArea) (inside 1 q greatestArea) false
+
 -- "Opening: 6; 9 a line is open; 8 species undeclared, an id above 15 included; 7 same stratum and species already opened; 11 32 lines opened."
+abbrev pub opening : {A : Type 0} → ℕ → ℕ → Bool → Bool → Bool → ℕ → Report A → Report A
+opening p q is-open is-declared before closed next =
+    unless (areasInRange p q) 6
+    (when is-open 9
+    (unless is-declared 8
+    (when before 7
+    (when (leb mostLines closed) 11
+    next))))
+
 unfoldable pub openLine : ℕ → ℕ → ℕ → ℕ → Survey → Report Survey
 openLine stratum id p q s =
     when (s .ended) 5
-    (unless (inside 1 p greatestArea) 6
-    (unless (inside 1 q greatestArea) 6
-    (when (s .active) 9
-    (unless (declared id s) 8
-    (when (opened stratum id s) 7
-    (when (leb mostLines (s .closed)) 11
-    (gives (withOpened s (begun stratum id (speciesAt s id) p q)))))))))
+    (opening p q (s .active) (declared id s) (opened stratum id s) (s .closed)
+    (gives (withOpened s (begun stratum id (speciesAt s id) p q))))
 
 -- "04 measured trees: class in cm (1, 7 to 100), count (2, 1 and up)." "1,000,000 measured trees .. a line"
 -- "Measured: 10 no line open; 6; 11 over the limit."

@@ -19,11 +19,12 @@ use biomass::units::UNITS_TO_CM;
 use biomass::whole::within;
 ghost use mathlib.Core.Path.{_≡_};
 ghost use Prim.Native.Nat.{_≤_};
+ghost use Rattle.biomass.specs.Report.{count};
 ghost use Rattle.biomass.specs.Units.{leastD, greatestD};
 ghost use Rattle.biomass.specs.Limits.{mostEstimated};
 ghost use Rattle.biomass.specs.Law.Report.{Inside};
-ghost use Rattle.survey.specs.Line.{begun, emptyRow};
-ghost use Rattle.survey.specs.Apply.{noted, rowed, measured, height, worked, lineRow};
+ghost use Rattle.survey.specs.Line.{begun, tariffOf, emptyRow};
+ghost use Rattle.survey.specs.Apply.{noted, rowed, measured, height, worked, someRow, lineRow};
 
 // What the squares of a line add up to at most: no class is above 100 cm.
 const MOST_SQUARES: u64 = 10_000 * MOST_MEASURED;
@@ -64,6 +65,13 @@ pub enum Noted {
 pub enum Closed {
     Is(Row),
     Refused(Refusal),
+}
+
+// The single tariff of a tree of a species.
+fn tariff_of(s: Species, cm: u8, tenths: u16) -> Count
+    ensures { λ r. ⌜ count r ≡ tariffOf s cm tenths ⌝ }
+{
+    single_tariff(s.c1, s.c2, s.c3, s.c4, cm as u64, tenths as u64)
 }
 
 impl Line {
@@ -119,8 +127,7 @@ impl Line {
     pub fn height(self, cm: u8, tenths: u16) -> Noted
         ensures { λ r. ⌜ noted r ≡ height cm tenths self ⌝ }
     {
-        let s = self.species;
-        let tariff = match single_tariff(s.c1, s.c2, s.c3, s.c4, cm as u64, tenths as u64) {
+        let tariff = match tariff_of(self.species, cm, tenths) {
             Count::Is(t) => t,
             Count::Refused(why) => return Noted::Refused(of_figure(why)),
         };
@@ -185,16 +192,10 @@ impl Line {
         })
     }
 
-    // The line closed: its row, worked with the factor at its mean diameter.
-    pub fn row(self, factors: [u8; 101]) -> Closed
-        ensures { λ r. ⌜ rowed r ≡ lineRow factors self ⌝ }
+    // The row of a line with measured trees and height trees, worked with the factor at its mean diameter.
+    fn some_row(self, factors: [u8; 101]) -> Closed
+        ensures { λ r. ⌜ rowed r ≡ someRow factors self ⌝ }
     {
-        if self.tally.n == 0 {
-            return Closed::Is(self.empty_row());
-        }
-        if self.heights.number == 0 {
-            return Closed::Refused(Refusal::NoHeightTree);
-        }
         let d = match mean(self.tally.n, self.tally.squares) {
             Count::Is(d) => d,
             Count::Refused(why) => return Closed::Refused(of_figure(why)),
@@ -216,5 +217,18 @@ impl Line {
             Count::Refused(why) => return Closed::Refused(of_figure(why)),
         };
         self.worked(tariff, d, factor, number)
+    }
+
+    // The line closed: its row.
+    pub fn row(self, factors: [u8; 101]) -> Closed
+        ensures { λ r. ⌜ rowed r ≡ lineRow factors self ⌝ }
+    {
+        if self.tally.n == 0 {
+            return Closed::Is(self.empty_row());
+        }
+        if self.heights.number == 0 {
+            return Closed::Refused(Refusal::NoHeightTree);
+        }
+        self.some_row(factors)
     }
 }

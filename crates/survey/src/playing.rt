@@ -1,4 +1,9 @@
 // Playing a book: its commands are applied to a fresh survey, to the end of the book or to the first refusal.
+use super::change::Change;
+use super::change::Seen;
+use super::change::decide;
+use super::change::has_row;
+use super::change::names;
 use super::command::Command;
 use super::line::Line;
 use super::line::Noted;
@@ -9,14 +14,13 @@ use super::refusal::Refusal;
 use super::survey::Outcome;
 use super::survey::Survey;
 ghost use mathlib.Core.Path.{_≡_};
-ghost use Rattle.biomass.specs.Report.{refused};
 ghost use Rattle.survey.specs.Refusal.{number};
 ghost use Rattle.survey.specs.Apply.{noted};
-ghost use Rattle.survey.specs.Playing.{stopped, played, stepped, step, afterEnd, play};
+ghost use Rattle.survey.specs.Playing.{stopped, played, Halts, afterEnd, play};
 ghost use Rattle.survey.specs.Noting.{noting, notedTo, note};
 
 // How far a book is played: the survey, the place after the last command, and what became of that command. Where a book
-// is stopped, the place is that of the refused command; of a refused step only the refusal is looked at.
+// is stopped, the place is that of the refused command.
 pub(crate) struct Played {
     pub(crate) survey: Survey,
     pub(crate) at: usize,
@@ -30,45 +34,30 @@ enum Noting {
     Refused(Refusal),
 }
 
+// Where playing comes to a halt, and with what.
+struct Halt {
+    at: usize,
+    outcome: Outcome,
+}
+
 // A refusal and its place.
-fn stop(survey: Survey, at: usize, why: Refusal) -> Played
-    ensures { λ r. ⌜ (stepped r ≡ refused (number why)) × (played r ≡ stopped (number why) at) ⌝ }
+fn stop(at: usize, why: Refusal) -> Halt
+    ensures { λ r. ⌜ Halts r (λ s. stopped (number why) at) ⌝ }
 {
-    Played {
-        survey,
+    Halt {
         at,
         outcome: Outcome::Refused(why),
     }
 }
 
-// One command: read at the place, and applied.
-fn step(book: &[u8], at: usize, survey: Survey) -> Played
-    ensures { λ r. ⌜ stepped r ≡ step (now (book .entry)) at survey ⌝ }
-{
-    match read(book, at) {
-        Reading::Is(command, next) => {
-            let applied = survey.apply(command);
-            let survey = applied.survey;
-            let outcome = applied.outcome;
-            Played {
-                survey,
-                at: next,
-                outcome,
-            }
-        }
-        Reading::Refused(why) => stop(survey, at, why),
-    }
-}
-
 // After 07, at the place behind it.
-fn end(book: &[u8], survey: Survey, at: usize) -> Played
-    ensures { λ r. ⌜ played r ≡ afterEnd (now (book .entry)) at survey ⌝ }
+fn end(book: &[u8], at: usize) -> Halt
+    ensures { λ r. ⌜ Halts r (afterEnd (now (book .entry)) at) ⌝ }
 {
     if at < book.len() {
-        return stop(survey, at, Refusal::Ended);
+        return stop(at, Refusal::Ended);
     }
-    Played {
-        survey,
+    Halt {
         at,
         outcome: Outcome::Done,
     }
@@ -99,23 +88,14 @@ fn note(book: &[u8], at: usize, line: Line) -> Noting
 }
 
 // The lines of a book and their commands. What is noted of an open line changes the line alone, so the survey, which is
-// more than twenty times as large, is left aside for it.
+// more than twenty times as large, is left aside for it; and what another command changes is stored in its place, here,
+// since a table of species or of rows cannot be lent.
 pub(crate) fn play(book: &[u8]) -> Played
     ensures { λ r. ⌜ played r ≡ play (now (book .entry)) ⌝ }
 {
     let mut survey = Survey::new();
     let mut at: usize = 0;
-    'lines: loop {
-        let taken = step(book, at, survey);
-        let outcome = taken.outcome;
-        if let Outcome::Refused(why) = outcome {
-            break 'lines stop(survey, at, why);
-        }
-        survey = taken.survey;
-        at = taken.at;
-        if survey.ended {
-            break 'lines end(book, survey, at);
-        }
+    let halt = 'lines: loop {
         let mut line = survey.line;
         while survey.active {
             match note(book, at, line) {
@@ -124,9 +104,56 @@ pub(crate) fn play(book: &[u8]) -> Played
                     at = next;
                 }
                 Noting::NotOfTheLine => break,
-                Noting::Refused(why) => break 'lines stop(survey, at, why),
+                Noting::Refused(why) => break 'lines stop(at, why),
             }
         }
-        survey = survey.with_line(line);
+        survey.line = line;
+        match read(book, at) {
+            Reading::Refused(why) => break 'lines stop(at, why),
+            Reading::Is(command, next) => {
+                let named = names(command);
+                let i = (named.species % 16) as usize;
+                let there = survey.species[i];
+                let before = has_row(survey.rows, survey.closed, named);
+                let seen = Seen {
+                    there,
+                    before,
+                    active: survey.active,
+                    closed: survey.closed,
+                };
+                match decide(command, seen, line, &survey.factors) {
+                    Change::Species(id, species) => {
+                        let i = id as usize;
+                        survey.species[i] = species;
+                    }
+                    Change::Factor(cm, factor) => {
+                        let i = cm as usize;
+                        survey.factors[i] = factor;
+                    }
+                    Change::Line(after) => {
+                        survey.line = after;
+                        survey.active = true;
+                    }
+                    Change::Row(row) => {
+                        let i = survey.closed;
+                        survey.rows[i] = row;
+                        survey.closed = i + 1;
+                        survey.active = false;
+                    }
+                    Change::End => {
+                        survey.ended = true;
+                        break 'lines end(book, next);
+                    }
+                    Change::Refused(why) => break 'lines stop(at, why),
+                }
+                at = next;
+            }
+        }
+    };
+    let outcome = halt.outcome;
+    Played {
+        survey,
+        at: halt.at,
+        outcome,
     }
 }

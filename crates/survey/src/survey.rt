@@ -1,20 +1,18 @@
 // The survey: what a field book has given so far. A command is applied to it, and it comes back beside the refusal.
+use super::change::Change;
+use super::change::Seen;
+use super::change::decide;
+use super::change::has_row;
+use super::change::names;
 use super::command::Command;
 use super::command::Species;
-use super::line::Closed;
 use super::line::Line;
-use super::line::Noted;
 use super::refusal::Refusal;
 use super::row::Row;
-use biomass::limits::GREATEST_AREA;
-use biomass::whole::within;
 ghost use mathlib.Core.Path.{_≡_};
-ghost use Prim.Native.Nat.{_<_};
-ghost use Rattle.biomass.specs.Report.{refused, gives, _then_};
-ghost use Rattle.survey.specs.Refusal.{number};
-ghost use Rattle.survey.specs.Line.{factorAt};
-ghost use Rattle.survey.specs.Survey.{outcome, applied, leaves, mostLines, fresh, speciesAt, withSpecies, withFactor, withOpened, withLine, withRow, withEnd, speciesInRange, declared, declare, giveFactor, isLine, opened, openLine, finish};
-ghost use Rattle.survey.specs.Apply.{noted, applyMeasured, applyHeight, kept, applyClose, apply};
+ghost use Rattle.survey.specs.Survey.{outcome, applied, leaves, fresh, declare, giveFactor, openLine, finish};
+ghost use Rattle.survey.specs.Apply.{applyMeasured, applyHeight, applyClose, apply};
+ghost use Rattle.survey.specs.Change.{changed, HasPlace};
 
 // How many lines a book has at most.
 pub const MOST_LINES: usize = 32;
@@ -57,33 +55,6 @@ impl Outcome {
     }
 }
 
-// Whether a species' operands are in their ranges. The constants may be any.
-fn species_in_range(id: u8, s: Species) -> bool
-    ensures { λ r. ⌜ r ≡ speciesInRange id s ⌝ }
-{
-    if id > 15 {
-        return false;
-    }
-    if s.crown > 7 {
-        return false;
-    }
-    if s.root > 5 {
-        return false;
-    }
-    within(1, s.gravity as u64, 100)
-}
-
-// Whether a row is that of a line of this stratum and species.
-fn is_line(row: Row, stratum: u8, id: u8) -> bool
-    ensures { λ r. ⌜ r ≡ isLine stratum id row ⌝ }
-{
-    if row.stratum == stratum {
-        row.species == id
-    } else {
-        false
-    }
-}
-
 impl Survey {
     // A survey of which nothing is known yet.
     pub fn new() -> Self
@@ -114,285 +85,113 @@ impl Survey {
         }
     }
 
-    // A command refused: the survey as it is.
-    fn refuse(self, why: Refusal) -> Applied
-        ensures { λ r. ⌜ applied r ≡ leaves self (refused (number why)) ⌝ }
+    // The survey with a change stored in its place.
+    fn changed(mut self, change: Change) -> Applied
+        requires { ⌜ HasPlace change self ⌝ }
+        ensures { λ r. ⌜ applied r ≡ leaves self (changed change self) ⌝ }
     {
+        let mut outcome = Outcome::Done;
+        match change {
+            Change::Species(id, species) => {
+                let i = id as usize;
+                self.species[i] = species;
+            }
+            Change::Factor(cm, factor) => {
+                let i = cm as usize;
+                self.factors[i] = factor;
+            }
+            Change::Line(line) => {
+                self.line = line;
+                self.active = true;
+            }
+            Change::Row(row) => {
+                let i = self.closed;
+                self.rows[i] = row;
+                self.closed = i + 1;
+                self.active = false;
+            }
+            Change::End => self.ended = true,
+            Change::Refused(why) => outcome = Outcome::Refused(why),
+        }
         Applied {
             survey: self,
-            outcome: Outcome::Refused(why),
+            outcome,
         }
     }
 
-    // A command taken: the survey that it leaves.
-    fn accept(self) -> Applied
-        ensures { λ r. ⌜ applied r ≡ leaves self (gives self) ⌝ }
+    // Any command: what it changes is decided on what it sees of the survey.
+    pub fn apply(self, command: Command) -> Applied
+        ensures { λ r. ⌜ applied r ≡ leaves self (apply command self) ⌝ }
     {
-        Applied {
-            survey: self,
-            outcome: Outcome::Done,
+        if self.ended {
+            return self.changed(Change::Refused(Refusal::Ended));
         }
-    }
-
-    // What stands in the tables, and the survey with one thing changed, each under the name that specs/Survey.antt has for it.
-    fn species_at(self, id: u8) -> Species
-        requires { ⌜ id < 16 ⌝ }
-        ensures { λ r. ⌜ r ≡ speciesAt self id ⌝ }
-    {
-        let i = id as usize;
-        self.species[i]
-    }
-
-    fn with_species(mut self, id: u8, species: Species) -> Survey
-        requires { ⌜ id < 16 ⌝ }
-        ensures { λ r. ⌜ r ≡ withSpecies self id species ⌝ }
-    {
-        let i = id as usize;
-        self.species[i] = species;
-        self
-    }
-
-    fn factor_at(self, cm: u8) -> u8
-        requires { ⌜ cm < 101 ⌝ }
-        ensures { λ r. ⌜ r ≡ factorAt (self .factors) cm ⌝ }
-    {
-        let i = cm as usize;
-        self.factors[i]
-    }
-
-    fn with_factor(mut self, cm: u8, factor: u8) -> Survey
-        requires { ⌜ cm < 101 ⌝ }
-        ensures { λ r. ⌜ r ≡ withFactor self cm factor ⌝ }
-    {
-        let i = cm as usize;
-        self.factors[i] = factor;
-        self
-    }
-
-    pub(crate) fn with_line(mut self, line: Line) -> Survey
-        ensures { λ r. ⌜ r ≡ withLine self line ⌝ }
-    {
-        self.line = line;
-        self
-    }
-
-    fn with_opened(mut self, line: Line) -> Survey
-        ensures { λ r. ⌜ r ≡ withOpened self line ⌝ }
-    {
-        self.line = line;
-        self.active = true;
-        self
-    }
-
-    fn with_row(mut self, row: Row) -> Survey
-        requires { ⌜ self .closed < mostLines ⌝ }
-        ensures { λ r. ⌜ r ≡ withRow self row ⌝ }
-    {
-        let at = self.closed;
-        self.rows[at] = row;
-        self.closed = at + 1;
-        self.active = false;
-        self
-    }
-
-    fn with_end(mut self) -> Survey
-        ensures { λ r. ⌜ r ≡ withEnd self ⌝ }
-    {
-        self.ended = true;
-        self
+        let named = names(command);
+        // An id above 15 has the place of another, and no command that names it is taken.
+        let i = (named.species % 16) as usize;
+        let there = self.species[i];
+        let before = has_row(self.rows, self.closed, named);
+        let seen = Seen {
+            there,
+            before,
+            active: self.active,
+            closed: self.closed,
+        };
+        let change = decide(command, seen, self.line, &self.factors);
+        self.changed(change)
     }
 
     // 01: declares a species.
     pub fn declare(self, id: u8, species: Species) -> Applied
         ensures { λ r. ⌜ applied r ≡ leaves self (declare id species self) ⌝ }
     {
-        if self.ended {
-            return self.refuse(Refusal::Ended);
-        }
-        if !species_in_range(id, species) {
-            return self.refuse(Refusal::Operand);
-        }
-        if self.is_declared(id) {
-            return self.refuse(Refusal::AlreadyGiven);
-        }
-        self.with_species(id, species).accept()
+        self.apply(Command::Species(id, species))
     }
 
     // 02: gives the factor at a whole cm.
     pub fn factor(self, cm: u8, factor: u8) -> Applied
         ensures { λ r. ⌜ applied r ≡ leaves self (giveFactor cm factor self) ⌝ }
     {
-        if self.ended {
-            return self.refuse(Refusal::Ended);
-        }
-        if !within(7, cm as u64, 100) {
-            return self.refuse(Refusal::Operand);
-        }
-        if !within(100, factor as u64, 200) {
-            return self.refuse(Refusal::Operand);
-        }
-        if 0 < self.factor_at(cm) {
-            return self.refuse(Refusal::AlreadyGiven);
-        }
-        self.with_factor(cm, factor).accept()
-    }
-
-    // Whether a species is declared. None is above 15.
-    fn is_declared(self, id: u8) -> bool
-        ensures { λ r. ⌜ r ≡ declared id self ⌝ }
-    {
-        if 15 < id {
-            return false;
-        }
-        let species = self.species_at(id);
-        0 < species.gravity
-    }
-
-    // Whether a line of this stratum and species was closed before.
-    fn has_row(self, stratum: u8, id: u8) -> bool
-        ensures { λ r. ⌜ r ≡ opened stratum id self ⌝ }
-    {
-        let mut i: usize = 0;
-        while i < MOST_LINES {
-            if self.closed <= i {
-                return false;
-            }
-            let row = self.rows[i];
-            if is_line(row, stratum, id) {
-                return true;
-            }
-            i += 1;
-        }
-        false
+        self.apply(Command::Factor { cm, factor })
     }
 
     // 03: opens a line.
     pub fn open_line(self, stratum: u8, id: u8, p: u32, q: u32) -> Applied
         ensures { λ r. ⌜ applied r ≡ leaves self (openLine stratum id p q self) ⌝ }
     {
-        if self.ended {
-            return self.refuse(Refusal::Ended);
-        }
-        if !within(1, p as u64, GREATEST_AREA) {
-            return self.refuse(Refusal::Operand);
-        }
-        if !within(1, q as u64, GREATEST_AREA) {
-            return self.refuse(Refusal::Operand);
-        }
-        if self.active {
-            return self.refuse(Refusal::LineOpen);
-        }
-        if !self.is_declared(id) {
-            return self.refuse(Refusal::Undeclared);
-        }
-        if self.has_row(stratum, id) {
-            return self.refuse(Refusal::AlreadyGiven);
-        }
-        if MOST_LINES <= self.closed {
-            return self.refuse(Refusal::Limit);
-        }
-        let line = Line::new(stratum, id, self.species_at(id), p, q);
-        self.with_opened(line).accept()
-    }
-
-    // The survey with what became of its line.
-    fn note(self, answer: Noted) -> Applied
-        ensures { λ r. ⌜ applied r ≡ leaves self (noted answer then λ l. gives (withLine self l)) ⌝ }
-    {
-        match answer {
-            Noted::Is(line) => self.with_line(line).accept(),
-            Noted::Refused(why) => self.refuse(why),
-        }
+        self.apply(Command::Open {
+            stratum,
+            species: id,
+            p,
+            q,
+        })
     }
 
     // 04: measured trees of the open line.
     pub fn measured(self, class: u8, count: u16) -> Applied
         ensures { λ r. ⌜ applied r ≡ leaves self (applyMeasured class count self) ⌝ }
     {
-        if self.ended {
-            return self.refuse(Refusal::Ended);
-        }
-        if !self.active {
-            return self.refuse(Refusal::NoLine);
-        }
-        let line = self.line;
-        self.note(line.measured(class, count))
+        self.apply(Command::Measured { class, count })
     }
 
     // 05: a height tree of the open line.
     pub fn height(self, cm: u8, tenths: u16) -> Applied
         ensures { λ r. ⌜ applied r ≡ leaves self (applyHeight cm tenths self) ⌝ }
     {
-        if self.ended {
-            return self.refuse(Refusal::Ended);
-        }
-        if !self.active {
-            return self.refuse(Refusal::NoLine);
-        }
-        let line = self.line;
-        self.note(line.height(cm, tenths))
-    }
-
-    // The survey with a row more, and no line open.
-    fn keep(self, row: Row) -> Applied
-        ensures { λ r. ⌜ applied r ≡ leaves self (kept row self) ⌝ }
-    {
-        let at = self.closed;
-        // No survey reaches this with a line open.
-        if MOST_LINES <= at {
-            return self.refuse(Refusal::Limit);
-        }
-        self.with_row(row).accept()
+        self.apply(Command::Height { cm, tenths })
     }
 
     // 06: closes the line and keeps its row.
     pub fn close(self) -> Applied
         ensures { λ r. ⌜ applied r ≡ leaves self (applyClose self) ⌝ }
     {
-        if self.ended {
-            return self.refuse(Refusal::Ended);
-        }
-        if !self.active {
-            return self.refuse(Refusal::NoLine);
-        }
-        let line = self.line;
-        let factors = self.factors;
-        match line.row(factors) {
-            Closed::Is(row) => self.keep(row),
-            Closed::Refused(why) => self.refuse(why),
-        }
+        self.apply(Command::Close)
     }
 
     // 07: ends the book.
     pub fn end(self) -> Applied
         ensures { λ r. ⌜ applied r ≡ leaves self (finish self) ⌝ }
     {
-        if self.ended {
-            return self.refuse(Refusal::Ended);
-        }
-        if self.active {
-            return self.refuse(Refusal::LineOpen);
-        }
-        self.with_end().accept()
-    }
-
-    // Any command.
-    pub fn apply(self, command: Command) -> Applied
-        ensures { λ r. ⌜ applied r ≡ leaves self (apply command self) ⌝ }
-    {
-        match command {
-            Command::Species(id, species) => self.declare(id, species),
-            Command::Factor { cm, factor } => self.factor(cm, factor),
-            Command::Open {
-                stratum,
-                species,
-                p,
-                q,
-            } => self.open_line(stratum, species, p, q),
-            Command::Measured { class, count } => self.measured(class, count),
-            Command::Height { cm, tenths } => self.height(cm, tenths),
-            Command::Close => self.close(),
-            Command::End => self.end(),
-        }
+        self.apply(Command::End)
     }
 }

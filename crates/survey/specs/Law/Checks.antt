@@ -9,33 +9,14 @@ use borrow.Author.Tests.{ltb-true, lt-ltb, ne-eqb}
 use Rattle.biomass.specs.Whole.{inside}
 use Rattle.biomass.specs.Report.{Report, refused, gives, unless, _then_}
 use Rattle.biomass.specs.Law.Report.{Inside, inside-true, true-inside, both-true}
-use Rattle.biomass.specs.Law.Gives.{never, number-is, test-passed}
-use Rattle.biomass.specs.Law.Declines.{Declines}
+use Rattle.biomass.specs.Law.Gives.{never, figure-is, number-is}
+use Rattle.biomass.specs.Law.Declines.{Declines, gives-declines, unless-declines, then-declines}
 use Rattle.survey.specs.Refusal.{when}
 use Rattle.survey.specs.Survey.{speciesAt, speciesInRange, declared, isLine}
 use Rattle.survey.specs.Valid.{ValidSpecies}
 use Rattle.survey.specs.declared.command.Species.{Species}
 use Rattle.survey.specs.declared.row.Row.{Row}
 use Rattle.survey.specs.declared.survey.Survey.{Survey}
-
--- ---- one check
-
--- the check was passed, its test being this, and the rest of the report is the answer
-pub record Past {A : Type 0} (test this : Bool) (rest answer : Report A) : Type 0 where
-  pub test-is : test ≡ this
-  pub next : rest ≡ answer
-
-pub when-gives : {A : Type 0} (test : Bool) (n : ℕ) (rest : Report A) {a : A} → when test n rest ≡ gives a → Past test false rest (gives a)
-when-gives true n rest e = never e
-when-gives false n rest e = record { test-is = refl; next = e }
-
-pub unless-gives : {A : Type 0} (test : Bool) (n : ℕ) (rest : Report A) {a : A} → unless test n rest ≡ gives a → Past test true rest (gives a)
-unless-gives test n rest e = let t = test-passed test n rest e in record { test-is = t .0; next = t .1 }
-
-pub cond-gives : {A X : Type 0} (test : Bool) (r q : Report A) {a : A} → cond test r q ≡ gives a
-    → (test ≡ true → r ≡ gives a → X) → (test ≡ false → q ≡ gives a → X) → X
-cond-gives true r q e f g = f refl e
-cond-gives false r q e f g = g refl e
 
 -- ---- what a check is declined with: its number where its test stops, and those of the rest where it does not (biomass's Declines has `unless`)
 
@@ -48,6 +29,35 @@ module _ {A : Type 0} (such : ℕ → Type 0) where
   pub cond-declines : (test : Bool) (r q : Report A) → Declines such r → Declines such q → Declines such (cond test r q)
   cond-declines true r q this other = this
   cond-declines false r q this other = other
+
+pub ruleset declined = (when-declines, unless-declines, cond-declines, then-declines, gives-declines)
+
+-- ---- what a report gives: its figure is such where it is past the last check, by all that the checks before it say
+
+abbrev pub Gives : {A : Type 0} → (A → Type 0) → Report A → Type 0
+Gives such r = (a : _) → r ≡ gives a → such a
+
+module _ {A : Type 0} (such : A → Type 0) where
+  pub gives-such : (a : A) → such a → Gives such (gives a)
+  gives-such a h b e = subst such (figure-is e) h
+
+  pub when-such : (test : Bool) (n : ℕ) (rest : Report A) → (test ≡ false → Gives such rest) → Gives such (when test n rest)
+  when-such true n rest h a e = never e
+  when-such false n rest h a e = h refl a e
+
+  pub unless-such : (test : Bool) (n : ℕ) (rest : Report A) → (test ≡ true → Gives such rest) → Gives such (unless test n rest)
+  unless-such true n rest h a e = h refl a e
+  unless-such false n rest h a e = never e
+
+  pub cond-such : (test : Bool) (r q : Report A) → (test ≡ true → Gives such r) → (test ≡ false → Gives such q) → Gives such (cond test r q)
+  cond-such true r q h k a e = h refl a e
+  cond-such false r q h k a e = k refl a e
+
+  pub then-such : {B : Type 0} (first : Report B) (f : B → Report A) → Gives (λ b. Gives such (f b)) first → Gives such (first then f)
+  then-such (refused n) f h a e = never e
+  then-such (gives b) f h a e = h b refl a e
+
+pub ruleset passed = (gives-such, when-such, unless-such, cond-such, then-such)
 
 -- ---- two reports with the same checks: they are the same where what follows is, and that only past the check
 
@@ -82,6 +92,10 @@ module _ {A B : Type 0} (f : A → Report B) where
       ((c : C) → first ≡ gives c → g c then f ≡ q c) → first then g then f ≡ first then q
   then-then (refused n) g q h = refl
   then-then (gives c) g q h = h c refl
+
+  -- a check that is known to be passed
+  pub passed-then : {q : Report B} (test : Bool) (n : ℕ) (r : Report A) → test ≡ true → r then f ≡ q → unless test n r then f ≡ q
+  passed-then test n r e h = ap (λ (b : Bool). unless b n r then f) e ∙ h
 
   -- a first report that is known to give a figure
   pub answered-then : {C : Type 0} {c : C} {q : Report B} (first : Report C) (g : C → Report A) →

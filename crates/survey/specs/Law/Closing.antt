@@ -2,21 +2,20 @@
 -- What is estimated of the line is in the ranges of steps 4 to 7, which answer it where N is above 0, and the row is within the greatest row.
 use Prim.Native.Nat.{_≤_, _<_, zero-le}
 use native.Mathlib.Omega.{arith}
-use mathlib.Core.Path.{_≡_, _∙_, sym, subst}
+use mathlib.Core.Path.{_≡_, _∙_, refl, sym, subst}
 use mathlib.Core.Bool.{true, false}
 use lib.Dec.{leb, eqb}
 use borrow.Author.Tests.{leb-true}
 use Rattle.biomass.specs.Report.{gives}
 use Rattle.biomass.specs.Limits.{mostEstimated}
 use Rattle.biomass.specs.Tree.{treeOf, row, rowOf}
-use Rattle.biomass.specs.Law.Gives.{figure-is}
 use Rattle.biomass.specs.Law.Tree.{row-bounds}
 use Rattle.biomass.specs.Law.Answers.{row-answers}
 use Rattle.survey.specs.Line.{N-of, Estimate, estimatedRow}
 use Rattle.survey.specs.Survey.{mostLines, withRow, f-of, treeAt, estimate, closingRow, close}
 use Rattle.survey.specs.Apply.{apply}
 use Rattle.survey.specs.Valid.{Within, Valid}
-use Rattle.survey.specs.Law.Checks.{when-gives, unless-gives, cond-gives, declared-true}
+use Rattle.survey.specs.Law.Checks.{Gives, passed, declared-true}
 use Rattle.survey.specs.Law.AsWritten.{estimate-by, line-operands, not-zero, as-written}
 use Rattle.survey.specs.declared.command.Command.{Command}
 use Rattle.survey.specs.declared.line.Line.{Line}
@@ -64,21 +63,20 @@ module _ (s : Survey) (v : Valid s) (is-open : s .active ≡ true) where
         answered = λ _. answered;
       })
 
-text-closes : (s t : Survey) → Valid s → close s ≡ gives t → ClosesTo s t
+  -- so the line closes with its row
+  closes-with : Worked (s .line) (estimate s) → ClosesTo s (withRow s (closingRow s))
+  closes-with worked = record { is-open = is-open; room = v .room is-open; is = refl; worked = worked }
+
+  closes-none : eqb (s .line .tally .n) 0 ≡ true → ClosesTo s (withRow s (closingRow s))
+  closes-none none = closes-with (none-worked none)
+
+  closes-some : eqb (s .line .tally .n) 0 ≡ false → eqb (s .line .heights .number) 0 ≡ false → eqb (f-of s) 0 ≡ false
+      → leb (N-of (s .line)) mostEstimated ≡ true → ClosesTo s (withRow s (closingRow s))
+  closes-some some heights factor small = closes-with (some-worked some heights factor small)
+
+text-closes : (s : Survey) → Valid s → Gives (ClosesTo s) (close s)
 unfolding close
-text-closes s t v e =
-    let ended = when-gives (s .ended) 5 _ e in
-    let active = unless-gives (s .active) 10 _ (ended .next) in
-    let is-open = active .test-is in
-    let closes : Worked (s .line) (estimate s) → gives (withRow s (closingRow s)) ≡ gives t → ClosesTo s t =
-    λ worked gave. record { is-open = is-open; room = v .room is-open; is = sym (figure-is gave); worked = worked } in
-    cond-gives (eqb (s .line .tally .n) 0) _ _ (active .next)
-    (λ none. closes (none-worked s v is-open none))
-    (λ some rest.
-    let heights = when-gives (eqb (s .line .heights .number) 0) 12 _ rest in
-    let factor = when-gives (eqb (f-of s) 0) 14 _ (heights .next) in
-    let small = unless-gives (leb (N-of (s .line)) mostEstimated) 15 _ (factor .next) in
-    closes (some-worked s v is-open some (heights .test-is) (factor .test-is) (small .test-is)) (small .next))
+text-closes s v = search (passed, closes-none, closes-some) depth 14
 
 pub closes-to : (s t : Survey) → Valid s → apply Command.Close s ≡ gives t → ClosesTo s t
-closes-to s t v e = text-closes s t v (sym (as-written Command.Close s v) ∙ e)
+closes-to s t v e = text-closes s v t (sym (as-written Command.Close s v) ∙ e)

@@ -1,5 +1,6 @@
 -- The rows of an accepted book are those of its closings, one after the other: each command that is taken leaves the rows as they stand, and a closing puts
--- the row of its open line after them (Law.Closing). It is so of every list of commands, accepted or not, and the closings of a list's book are the list's.
+-- the row of its open line after them (Law.Effect, Law.Closing). It is so of every list of commands, accepted or not, and the closings of a list's book are
+-- the list's.
 use Prim.Native.Nat.{ℕ}
 use native.Mathlib.Numerals.{add-one}
 use native.Mathlib.Omega.{arith}
@@ -15,9 +16,9 @@ use Rattle.survey.specs.Apply.{apply, reached}
 use Rattle.survey.specs.Valid.{Valid}
 use Rattle.survey.specs.Playing.{ended, playBy}
 use Rattle.survey.specs.Sheet.{rowsOf}
-use Rattle.survey.specs.Law.Taken.{declare-gives, factor-gives, open-gives, measure-gives, height-gives, finish-gives}
 use Rattle.survey.specs.Law.AsWritten.{as-written}
 use Rattle.survey.specs.Law.Closing.{Worked, closes-to}
+use Rattle.survey.specs.Law.Effect.{Effect, a-species, a-factor, the-line, a-row, effect}
 use Rattle.survey.specs.Law.Valid.{fresh-valid, after-valid}
 use Rattle.survey.specs.Law.Reach.{AllFit, reach-of-list}
 use Rattle.survey.specs.Law.Playing.{play-as-written, play-reaches}
@@ -37,23 +38,20 @@ pub record Between (s t : Survey) (ss : List Survey) : Type 0 where
 
 -- ---- one command
 
--- commands other than closing leave the rows alone
+-- what is changed but the rows leaves these alone
 same-rows : {s t : Survey} → rowsOf t ≡ rowsOf s → Between s t []
 same-rows {s} e = record { rows = e ∙ sym (append-nil (rowsOf s)); closed = no-line }
 
-of-command : (c : Command) (s t : Survey) → Valid s → apply c s ≡ gives t → Between s t (closing c s)
-of-command (Command.Species id species) s t v e = same-rows (ap rowsOf (declare-gives id species s t e .is))
-of-command (Command.Factor cm factor) s t v e = same-rows (ap rowsOf (factor-gives cm factor s t e .is))
-of-command (Command.Open stratum species p q) s t v e = same-rows (ap rowsOf (open-gives stratum species p q s t e .is))
-of-command (Command.Measured class count) s t v e = same-rows (ap rowsOf (measure-gives class count s t e .is))
-of-command (Command.Height cm tenths) s t v e = same-rows (ap rowsOf (height-gives cm tenths s t e .is))
-of-command Command.Close s t v e =
-    let g = closes-to s t v e in
+of-effect : {c : Command} {s t : Survey} {ss : List Survey} → Valid s → Effect c s t ss → Between s t ss
+of-effect v (a-species g) = same-rows refl
+of-effect v (a-factor g) = same-rows refl
+of-effect v (the-line g) = same-rows refl
+of-effect {s} v (a-row r e) =
+    let g = closes-to s _ v e in
     record {
       rows = ap rowsOf (g .is) ∙ rw add-one (take-suc-set (s .rows) (s .closed) (closingRow s) (omega (arith, v .places, g .room)));
       closed = and-lines s [] (g .worked) no-line;
     }
-of-command Command.End s t v e = same-rows (ap rowsOf (finish-gives s t e .is))
 
 -- ---- commands one after the other
 
@@ -74,7 +72,7 @@ one-then {s} {ss} {us} a b =
 -- a command that is taken or refused
 of-report : (c : Command) (s : Survey) (r : Report Survey) → Valid s → apply c s ≡ r → Between s (leaves s r .survey) (ifTaken r (closing c s))
 of-report c s (refused n) v e = same-rows {s = s} refl
-of-report c s (gives t) v e = of-command c s t v e
+of-report c s (gives t) v e = of-effect v (effect c s t e)
 
 commands-between : (cs : List Command) (s : Survey) → Valid s → Between s (reached cs s) (closings cs s)
 unfolding reached closings

@@ -20,16 +20,18 @@ use Rattle.survey.specs.Refusal.{when}
 use Rattle.survey.specs.Command.{encode}
 use Rattle.survey.specs.Reading.{read}
 use Rattle.survey.specs.Book.{encodeAll, reach}
-use Rattle.survey.specs.Survey.{leaves, fresh, withOpened, withLine, declare, giveFactor, openLine, finish}
+use Rattle.survey.specs.Survey.{leaves, fresh, withLine}
 use Rattle.survey.specs.AsWritten.{asWritten, isIn}
-use Rattle.survey.specs.Apply.{measured, height, applyMeasured, applyHeight, applyClose, apply, reached}
+use Rattle.survey.specs.Apply.{onLine, apply, reached}
 use Rattle.survey.specs.Valid.{Valid}
 use Rattle.survey.specs.Playing.{Played, ended, stopped, takenTo, stepBy, step, met, afterEnd, playUpToBy, playUpTo, playFrom, playBy, play, playList}
-use Rattle.survey.specs.Noting.{Note, ofTheLine, notOfTheLine, notedTo, noteOf, note}
+use Rattle.survey.specs.Noting.{Note, ofTheLine, notOfTheLine, notedTo, noteBy, note}
+use Rattle.survey.specs.Change.{Own, own, notOwn, ownOf}
 use Rattle.survey.specs.Law.Bytes.{Stands, stands-first, stands-second, stands-itself}
 use Rattle.survey.specs.Law.RoundTrip.{read-encoded, read-moves}
 use Rattle.survey.specs.Law.Reach.{read-declines, read-at-end, reach-refused, reach-on, AllFit, none, and-next}
 use Rattle.survey.specs.Law.Checks.{then-same}
+use Rattle.survey.specs.Law.Change.{ended-refuses, own-applied}
 use Rattle.survey.specs.Law.Valid.{fresh-valid, apply-valid}
 use Rattle.survey.specs.Law.AsWritten.{as-written}
 use Rattle.survey.specs.Law.Named.{ofApplying, in-other, refusal-of-applying}
@@ -108,6 +110,33 @@ module _ (book : List ℕ) (at : ℕ) (s : Survey) where
   pub plays-past-end : s .ended ≡ true → at < length book → playFrom book at s ≡ stopped 5 at
   plays-past-end is-ended some-left = plays-after-end is-ended ∙ rw lt-ltb
 
+-- ---- a command whose change is known (Law.Change), read at the place
+
+-- from here on in the book, what is played is the same
+pub record On (book : List ℕ) (at : ℕ) (s : Survey) (next : ℕ) (t : Survey) : Type 0 where
+  pub moves : at < next
+  pub inside : next ≤ length book
+  pub plays : playFrom book at s ≡ playFrom book next t
+
+module _ (book : List ℕ) (at : ℕ) (s : Survey) (c : Command) (next : ℕ) (reads : read book at ≡ gives (c, next)) where
+  step-applies : {r : Report Survey} → apply c s ≡ r → step book at s ≡ takenTo next r
+  unfolding stepBy
+  step-applies e = ap (λ (r : Report (Command × ℕ)). r then λ x. takenTo (x .1) (apply (x .0) s)) reads ∙ ap (takenTo next) e
+
+  pub plays-taken : (t : Survey) → s .ended ≡ false → apply c s ≡ gives t → On book at s next t
+  plays-taken t not-ended e =
+      let takes = step-applies e in
+      let moves = step-moves book at s t next takes in
+      record { moves = moves .0; inside = moves .1; plays = plays-on book at s t next not-ended takes }
+
+  pub plays-declined : (n : ℕ) → s .ended ≡ false → apply c s ≡ refused n → playFrom book at s ≡ stopped n at
+  plays-declined n not-ended e = plays-refused book at s n not-ended (step-applies e)
+
+-- and one that is not read
+pub plays-unread : (book : List ℕ) (at : ℕ) (s : Survey) (n : ℕ) → s .ended ≡ false → read book at ≡ refused n → playFrom book at s ≡ stopped n at
+unfolding stepBy
+plays-unread book at s n not-ended e = plays-refused book at s n not-ended (ap (λ (r : Report (Command × ℕ)). r then λ x. takenTo (x .1) (apply (x .0) s)) e)
+
 -- ---- the open line alone
 
 -- what a note of the line makes of the survey: the other line; and where the command is not the line's own, whatever else comes of it
@@ -118,7 +147,7 @@ carried s other notOfTheLine = other
 module _ (s : Survey) (l : Line) (not-ended : s .ended ≡ false) (is-open : s .active ≡ true) where
   -- the line's own commands look at nothing else of a survey with an open line
   line-carried : (next : ℕ) (other : Report (Survey × ℕ)) (line : Report Line)
-      → takenTo next (when (s .ended) 5 (unless (s .active) 10 (line then λ m. gives (withLine s m)))) ≡ notedTo next line then carried s other
+      → takenTo next (onLine line s) ≡ notedTo next line then carried s other
   line-carried next other line =
       ap₂ (λ (b o : Bool). takenTo next (when b 5 (unless o 10 (line then λ m. gives (withLine s m))))) not-ended is-open ∙ by-line line
     where
@@ -126,15 +155,13 @@ module _ (s : Survey) (l : Line) (not-ended : s .ended ≡ false) (is-open : s .
       by-line (refused n) = refl
       by-line (gives m) = refl
 
-  apply-carried : (c : Command) (next : ℕ) → takenTo next (apply c (withLine s l)) ≡ noteOf c next l then carried s (takenTo next (apply c (withLine s l)))
-  unfolding applyMeasured applyHeight
-  apply-carried (Command.Species id species) next = refl
-  apply-carried (Command.Factor cm factor) next = refl
-  apply-carried (Command.Open stratum species p q) next = refl
-  apply-carried (Command.Measured class count) next = line-carried next _ (measured class count l)
-  apply-carried (Command.Height cm tenths) next = line-carried next _ (height cm tenths l)
-  apply-carried Command.Close next = refl
-  apply-carried Command.End next = refl
+  apply-carried : (c : Command) (next : ℕ)
+      → takenTo next (apply c (withLine s l)) ≡ noteBy next (ownOf c l) then carried s (takenTo next (apply c (withLine s l)))
+  apply-carried c next = by-own (ownOf c l) refl
+    where
+      by-own : (o : Own) → ownOf c l ≡ o → takenTo next (apply c (withLine s l)) ≡ noteBy next o then carried s (takenTo next (apply c (withLine s l)))
+      by-own (own after) e = ap (takenTo next) (own-applied c (withLine s l) e) ∙ line-carried next _ after
+      by-own notOwn e = refl
 
   -- where a line is open, a command that is the line's own does to the survey what it does to the line
   note-carried : (book : List ℕ) (at : ℕ) {r : Report Note} → note book at l ≡ r
@@ -143,7 +170,7 @@ module _ (s : Survey) (l : Line) (not-ended : s .ended ≡ false) (is-open : s .
   note-carried book at e = by-read (read book at) ∙ ap (λ (r : Report Note). r then carried s (step book at (withLine s l))) e
     where
       by-read : (r : Report (Command × ℕ)) → (r then λ x. takenTo (x .1) (apply (x .0) (withLine s l)))
-          ≡ (r then λ x. noteOf (x .0) (x .1) l) then carried s (r then λ x. takenTo (x .1) (apply (x .0) (withLine s l)))
+          ≡ (r then λ x. noteBy (x .1) (ownOf (x .0) l)) then carried s (r then λ x. takenTo (x .1) (apply (x .0) (withLine s l)))
       by-read (refused n) = refl
       by-read (gives (c, next)) = apply-carried c next
 
@@ -155,10 +182,13 @@ pub note-refused : (book : List ℕ) (at : ℕ) (s : Survey) (l : Line) (n : ℕ
     → note book at l ≡ refused n → step book at (withLine s l) ≡ refused n
 note-refused book at s l n not-ended is-open e = note-carried s l not-ended is-open book at e
 
--- and moves on, as every command does
-pub note-moves : (book : List ℕ) (at : ℕ) (l m : Line) (next : ℕ) → note book at l ≡ gives (ofTheLine m next) → (at < next) × (next ≤ length book)
-unfolding fresh
-note-moves book at l m next e = step-moves book at _ _ next (note-line book at (withOpened fresh l) l m next refl refl e)
+-- and playing goes on from there
+pub plays-noted : (book : List ℕ) (at : ℕ) (s : Survey) (l m : Line) (next : ℕ) → s .ended ≡ false → s .active ≡ true
+    → note book at l ≡ gives (ofTheLine m next) → On book at (withLine s l) next (withLine s m)
+plays-noted book at s l m next not-ended is-open e =
+    let takes = note-line book at s l m next not-ended is-open e in
+    let moves = step-moves book at (withLine s l) (withLine s m) next takes in
+    record { moves = moves .0; inside = moves .1; plays = plays-on book at (withLine s l) (withLine s m) next not-ended takes }
 
 -- ---- what a whole book comes to
 
@@ -296,26 +326,8 @@ play-as-written book = plays-as-written (suc (length book)) book 0 fresh fresh-v
 
 -- ---- a book given as its commands
 
--- "5 the book has ended, first of all"
-when-ended : (s : Survey) (rest : Report Survey) → s .ended ≡ true → when (s .ended) 5 rest ≡ refused 5
-when-ended s rest e = ap (λ (b : Bool). when b 5 rest) e
-
-ended-refuses : (c : Command) (s : Survey) → s .ended ≡ true → apply c s ≡ refused 5
-unfolding declare giveFactor openLine applyMeasured applyHeight applyClose finish
-ended-refuses (Command.Species id species) s e = when-ended s _ e
-ended-refuses (Command.Factor cm factor) s e = when-ended s _ e
-ended-refuses (Command.Open stratum species p q) s e = when-ended s _ e
-ended-refuses (Command.Measured class count) s e = when-ended s _ e
-ended-refuses (Command.Height cm tenths) s e = when-ended s _ e
-ended-refuses Command.Close s e = when-ended s _ e
-ended-refuses Command.End s e = when-ended s _ e
-
 -- a command that is known to stand there
 module _ (book : List ℕ) (at : ℕ) (s : Survey) (c : Command) (next : ℕ) (reads : read book at ≡ gives (c, next)) where
-  step-applies : {r : Report Survey} → apply c s ≡ r → step book at s ≡ takenTo next r
-  unfolding stepBy
-  step-applies e = ap (λ (r : Report (Command × ℕ)). r then λ x. takenTo (x .1) (apply (x .0) s)) reads ∙ ap (takenTo next) e
-
   plays-command : (rest : Survey → Played) → at < length book → ((t : Survey) → playFrom book next t ≡ rest t)
       → playFrom book at s ≡ met at (apply c s) rest
   plays-command rest inside goes-on = by-ended (s .ended) refl
@@ -324,8 +336,8 @@ module _ (book : List ℕ) (at : ℕ) (s : Survey) (c : Command) (next : ℕ) (r
       by-ended true is-ended =
           plays-past-end book at s is-ended inside ∙ ap (λ (r : Report Survey). met at r rest) (sym (ended-refuses c s is-ended))
       by-ended false not-ended =
-          met-cases (λ p. playFrom book at s ≡ p) at (apply c s) rest (λ n e. plays-refused book at s n not-ended (step-applies e))
-          (λ t e. plays-on book at s t next not-ended (step-applies e) ∙ goes-on t)
+          met-cases (λ p. playFrom book at s ≡ p) at (apply c s) rest (λ n e. plays-declined book at s c next reads n not-ended e)
+          (λ t e. plays-taken book at s c next reads t not-ended e .plays ∙ goes-on t)
 
 -- the commands from a place on to the end of the book
 plays-list : (book : List ℕ) (at : ℕ) (s : Survey) (cs : List Command) → AllFit cs → Stands (encodeAll cs) book at

@@ -12,15 +12,14 @@ use Rattle.survey.specs.Bytes.{AllBytes}
 use Rattle.survey.specs.Command.{Fits}
 use Rattle.survey.specs.Line.{emptyRow}
 use Rattle.survey.specs.Survey.{mostLines, noLine, fresh, closingRow}
-use Rattle.survey.specs.Apply.{apply}
 use Rattle.survey.specs.Valid.{rowAt, Valid}
 use Rattle.survey.specs.Playing.{ended, play}
 use Rattle.survey.specs.Sheet.{sheetLength, rowsOf, findRow}
 use Rattle.survey.specs.Total.{sheetAfter}
 use Rattle.survey.specs.Law.RoundTrip.{read-is-encoded}
 use Rattle.survey.specs.Law.Sheet.{RowFits, row-reads-back, rows-number, rows-at-most}
-use Rattle.survey.specs.Law.Taken.{declare-gives, factor-gives, open-gives, measure-gives, height-gives, finish-gives}
 use Rattle.survey.specs.Law.Closing.{closes-to}
+use Rattle.survey.specs.Law.Effect.{Effect, a-species, a-factor, the-line, a-row, effect}
 use Rattle.survey.specs.Law.Valid.{always, fresh-valid, set-cases}
 use Rattle.survey.specs.Law.Playing.{taken, step-valid, kept-to-the-end, play-valid}
 use Rattle.survey.specs.Law.Total.{sheet-applied}
@@ -38,23 +37,20 @@ fresh-strata : Strata fresh
 unfolding fresh
 fresh-strata = (omega arith, λ i. let none = ap (λ (r : Row). r .stratum) (always mostLines i (emptyRow noLine)) in omega (arith, none))
 
--- only opening brings a new stratum, and closing puts the line's into its row
-apply-strata : (c : Command) (s t : Survey) → Fits c → Valid s → apply c s ≡ gives t → Strata s → Strata t
+-- a line that follows has the stratum of the line before or one that the command gives, and closing puts the line's into its row
+strata-kept : {c : Command} {s t : Survey} {ss : List Survey} → Effect c s t ss → Fits c → Valid s → Strata s → Strata t
 unfolding closingRow
-apply-strata (Command.Species id species) s t f v e k = subst Strata (sym (declare-gives id species s t e .is)) k
-apply-strata (Command.Factor cm factor) s t f v e k = subst Strata (sym (factor-gives cm factor s t e .is)) k
-apply-strata (Command.Open stratum species p q) s t f v e k = subst Strata (sym (open-gives stratum species p q s t e .is)) (f .0, k .1)
-apply-strata (Command.Measured class count) s t f v e k = subst Strata (sym (measure-gives class count s t e .is)) k
-apply-strata (Command.Height cm tenths) s t f v e k = subst Strata (sym (height-gives cm tenths s t e .is)) k
-apply-strata Command.Close s t f v e k =
-    let g = closes-to s t v e in
+strata-kept (a-species g) f v k = k
+strata-kept (a-factor g) f v k = k
+strata-kept (the-line g) f v k = (g .stratum f (k .0), k .1)
+strata-kept {s} (a-row r e) f v k =
+    let g = closes-to s _ v e in
     subst Strata (sym (g .is)) (
       k .0,
       λ i.
           set-cases (λ (r : Row). r .stratum < 256) (s .rows) (s .closed) i (closingRow s) (emptyRow noLine) (omega (arith, v .places, g .room))
           (λ same. k .0) (λ other. k .1 i),
     )
-apply-strata Command.End s t f v e k = subst Strata (sym (finish-gives s t e .is)) k
 
 -- ---- the rows of an accepted book
 
@@ -66,7 +62,7 @@ module _ (book : List ℕ) (s : Survey) (all : AllBytes book) (accepted : play b
       (λ at s t next k e.
       let one = taken book at s t next e in
       let fits = read-is-encoded book at next (one .command) all (one .is-read) .fits in
-      (step-valid book at s t next (k .0) e, apply-strata (one .command) s t fits (k .0) (one .is-applied) (k .1)))
+      (step-valid book at s t next (k .0) e, strata-kept (effect (one .command) s t (one .is-applied)) fits (k .0) (k .1)))
       (fresh-valid, fresh-strata) s accepted
 
   -- each figure is below 256^k, with k the bytes that the row has for it

@@ -4,6 +4,7 @@ use Prim.Native.Nat.{ℕ, _+_, _≤_, _<_}
 use native.Mathlib.Omega.{arith}
 use mathlib.Core.Path.{_≡_, _∙_, refl, sym, ap}
 use mathlib.Core.Bool.{true≢false}
+use mathlib.Core.List.{List}
 use lib.Seq.{getD-set-same}
 use lib.Dec.{lit≤, lit<}
 use Rattle.biomass.specs.Report.{Report, refused, gives}
@@ -14,45 +15,32 @@ use Rattle.survey.specs.Apply.{measured, applyMeasured, apply}
 use Rattle.survey.specs.Valid.{Valid}
 use Rattle.survey.specs.Listing.{listed, species3, line1, fourTrees}
 use Rattle.survey.specs.Law.Checks.{true-declared}
-use Rattle.survey.specs.Law.Taken.{declare-gives, factor-gives, open-gives, measure-gives, height-gives, close-gives, finish-gives}
+use Rattle.survey.specs.Law.Effect.{Effect, a-species, a-factor, the-line, a-row, effect}
 use Rattle.survey.specs.Law.Limit.{AtLimit, limit-told}
 use Rattle.survey.specs.declared.command.Command.{Command}
 use Rattle.survey.specs.declared.survey.Survey.{Survey}
 
 -- ---- in general
 
--- a command that a valid survey takes changes it: each notes something that was not there
-pub taken-changes : (c : Command) (s t : Survey) → Valid s → apply c s ≡ gives t → t ≡ s → ⊥
-taken-changes (Command.Species id species) s t v e same =
-    let g = declare-gives id species s t e in
-    let is : speciesAt s id ≡ species =
-    ap (λ (x : Survey). speciesAt x id) (sym same ∙ g .is) ∙ getD-set-same (s .species) id species undeclared (omega (arith, v .ids)) in
+-- what a command changes was not so before
+effect-changes : {c : Command} {s t : Survey} {ss : List Survey} → Valid s → Effect c s t ss → t ≡ s → ⊥
+effect-changes {s} v (a-species {id} {x} g) same =
+    let is : speciesAt s id ≡ x =
+    ap (λ (y : Survey). speciesAt y id) (sym same) ∙ getD-set-same (s .species) id x undeclared (omega (arith, v .ids)) in
     let gravity : 0 < speciesAt s id .gravity = rw is (g .in-range .gravity .least) in
     true≢false (sym (true-declared id s (record { in-table = g .in-table .most; gravity = gravity })) ∙ g .new)
-taken-changes (Command.Factor cm factor) s t v e same =
-    let g = factor-gives cm factor s t e in
-    let is : factorAt (s .factors) cm ≡ factor =
-    ap (λ (x : Survey). factorAt (x .factors) cm) (sym same ∙ g .is) ∙ getD-set-same (s .factors) cm factor 0 (omega (arith, v .cms)) in
+effect-changes {s} v (a-factor {cm} {x} g) same =
+    let is : factorAt (s .factors) cm ≡ x =
+    ap (λ (y : Survey). factorAt (y .factors) cm) (sym same) ∙ getD-set-same (s .factors) cm x 0 (omega (arith, v .cms)) in
     omega arith
-taken-changes (Command.Open stratum species p q) s t v e same =
-    let g = open-gives stratum species p q s t e in
-    true≢false (ap (λ (x : Survey). x .active) (sym (g .is) ∙ same) ∙ g .none-open)
-taken-changes (Command.Measured class count) s t v e same =
-    let g = measure-gives class count s t e in
-    let more : s .line .tally .n ≡ s .line .tally .n + count = ap (λ (x : Survey). x .line .tally .n) (sym same ∙ g .is) in
-    omega arith
-taken-changes (Command.Height cm tenths) s t v e same =
-    let g = height-gives cm tenths s t e in
-    let more : s .line .heights .number ≡ s .line .heights .number + 1 = ap (λ (x : Survey). x .line .heights .number) (sym same ∙ g .is) in
-    omega arith
-taken-changes Command.Close s t v e same =
-    let more : s .closed ≡ s .closed + 1 = ap (λ (x : Survey). x .closed) (sym same ∙ close-gives s t e .is) in
-    omega arith
-taken-changes Command.End s t v e same =
-    let g = finish-gives s t e in
-    true≢false (ap (λ (x : Survey). x .ended) (sym (g .is) ∙ same) ∙ g .not-ended)
+effect-changes v (the-line g) same = g .changed same
+effect-changes {s} v (a-row r e) same = let more : s .closed + 1 ≡ s .closed = ap (λ (x : Survey). x .closed) same in omega arith
 
--- so it is not swallowed
+-- so a command that a valid survey takes changes it
+pub taken-changes : (c : Command) (s t : Survey) → Valid s → apply c s ≡ gives t → t ≡ s → ⊥
+taken-changes c s t v e = effect-changes v (effect c s t e)
+
+-- and is not swallowed
 pub not-swallowed : (c : Command) (s t : Survey) → Valid s → apply c s ≡ gives t → leaves s (apply c s) ≡ record { survey = s; refusal = 0 } → ⊥
 not-swallowed c s t v e swallowed =
     taken-changes c s t v e (ap (λ (r : Report Survey). leaves s r .survey) (sym e) ∙ ap (λ (x : After). x .survey) swallowed)

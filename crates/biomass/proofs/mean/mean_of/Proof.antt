@@ -61,7 +61,7 @@ mul-if1 : tie.Need-mul-if1 Inv-loop μ-loop
 mul-if1 c = record { fits = square-fits (omega arith) }
 
 mul-if1-2 : tie.Need-mul-if1-2 Inv-loop μ-loop
-mul-if1-2 c = record { fits = product-fits (omega arith) (c .before .before .pre .0 .most) }
+mul-if1-2 c = record { fits = product-fits (omega arith) (omega arith) }
 
 mul-if1-3 : tie.Need-mul-if1-3 Inv-loop μ-loop
 mul-if1-3 c = omega arith

@@ -1,67 +1,66 @@
 -- `biomass::project::project` meets its contract: each test of the code is the definition's, and past them eleven times a sum is within 64 bits.
+use Prim.Native.Nat.{ℕ, _+_, _^_, _≤_, _<_}
 use borrow.Author.Tests.{eq-eqb, ne-eqb}
 use native.Mathlib.Omega.{arith}
-use mathlib.Core.Path.{ap}
+use mathlib.Core.Path.{_≡_, ap}
+use mathlib.Core.Logic.{_≢_}
+use Rattle.biomass.specs.Report.{gives}
+use Rattle.biomass.specs.declared.units.Milligrams.{Milligrams}
 use Rattle.biomass.specs.declared.units.Grams.{Grams}
-use Rattle.biomass.specs.Project.{project, greatestSum}
-use Rattle.biomass.specs.Law.Report.{refuses, goes-on, in-range, held, Inside}
+use Rattle.biomass.specs.declared.units.BiomassRange.{BiomassRange}
+use Rattle.biomass.specs.Project.{project, projectOf, dioxide, oneMore, greatestSum}
+use Rattle.biomass.specs.Law.Report.{Inside, refuses, goes-on, ranges}
 use Rattle.biomass.proofs.project.project.Statement.{statement}
 use Rattle.biomass.proofs.project.project.Tie as tie
+
+-- past its test a sum is what `dioxide` takes, and one more gram than it makes of the sum fits
+few : {x : ℕ} → Inside 0 x greatestSum → x ≤ greatestSum
+few i = i .most
+
+more-fits : {g : Grams} (m : Milligrams) → g ≡ dioxide m → Inside 0 (m .0) greatestSum → g .0 + 1 < 2 ^ 64
+more-fits m is i = omega (arith, ap (λ (g : Grams). g .0) is)
+
+-- the two figures, of no trees and of some
+module _ (sums : BiomassRange) {N : ℕ} {low : Grams} (low-is : low ≡ dioxide (sums .low)) where
+  of-none : N ≡ 0 → gives (record { low = low; high = low }) ≡ gives (projectOf sums N)
+  of-none none = simp (eq-eqb N 0 none, low-is)
+
+  of-some : {high : Grams} → high ≡ dioxide (sums .high) → N ≢ 0 → gives (record { low = low; high = oneMore high }) ≡ gives (projectOf sums N)
+  of-some high-is some = simp (ne-eqb N 0 some, low-is, high-is)
+
+-- the tests and the figures
+ruleset figures = (refuses, goes-on, of-none, of-some)
 
 within-requires : tie.Need-within-requires
 within-requires c κs = tt
 
 returns : tie.Need-returns
 unfolding project
-returns c = refuses _ _ (c .before .within .ensures) (c .if1 .taken)
+returns c = search figures
 
 within-requires-2 : tie.Need-within-requires-2
 within-requires-2 c κs = tt
 
 returns-2 : tie.Need-returns-2
 unfolding project
-returns-2 c =
-    let first = c .before .before in
-    goes-on _ _ _ (first .before .within .ensures) (first .if1 .left)
-    (refuses _ _ (c .before .within2 .ensures) (c .if2 .taken))
+returns-2 c = search figures
 
 dioxide-requires : tie.Need-dioxide-requires
-dioxide-requires c κs = in-range (c .before .before .before .within .ensures) (c .before .before .if1 .left) .most
+dioxide-requires c κs = search (few, ranges)
 
 returns-3 : tie.Need-returns-3
 unfolding project
-returns-3 c =
-    let second = c .before .before in
-    let first = second .before .before in
-    simp (
-      held (first .before .within .ensures) (first .if1 .left),
-      held (second .before .within2 .ensures) (second .if2 .left),
-      eq-eqb _ _ (c .if3 .taken),
-      c .before .dioxide .ensures,
-    )
+returns-3 c = search figures
 
 dioxide-requires-2 : tie.Need-dioxide-requires-2
-dioxide-requires-2 c κs = in-range (c .before .before .before .within2 .ensures) (c .before .before .if2 .left) .most
+dioxide-requires-2 c κs = search (few, ranges)
 
 add-t10 : tie.Need-add-t10
-add-t10 c =
-    let second = c .before .before .before .before in
-    let high : Inside 0 (second .before .before .before .before .args .sums .high .0) greatestSum = in-range (second .before .within2 .ensures) (second .if2 .left) in
-    omega (arith, ap (λ (g : Grams). g .0) (c .before .dioxide2 .ensures))
+add-t10 c = search (more-fits, ranges)
 
 returns-4 : tie.Need-returns-4
 unfolding project
-returns-4 c =
-    let third = c .before .before in
-    let second = third .before .before in
-    let first = second .before .before in
-    simp (
-      held (first .before .within .ensures) (first .if1 .left),
-      held (second .before .within2 .ensures) (second .if2 .left),
-      ne-eqb _ _ (third .if3 .left),
-      third .before .dioxide .ensures,
-      c .before .dioxide2 .ensures,
-    )
+returns-4 c = search figures
 
 pub project-spec : {M : Type 1} → statement M
 project-spec =

@@ -1,49 +1,42 @@
 -- `biomass::root::root_in_range` meets its contract: the row is the definition's (`root_row`), and so is the form that the diameter picks.
-use Prim.Native.Nat.{ℕ, _<_}
+use Prim.Native.Nat.{ℕ, _^_, _≤_, _<_}
 use native.Mathlib.Omega.{arith}
-use mathlib.Core.Path.{_∙_, ap₂}
+use mathlib.Core.Path.{_≡_}
 use lib.Dec.{lit<}
-use lib.IntN.{ℤ}
-use borrow.Author.Tests.{le-leb, lt-leb}
 use Rattle.biomass.specs.Units.{rootLimit}
-use Rattle.biomass.specs.Ends.{range, curve, straight}
-use Rattle.biomass.specs.Root.{lineA, lineB, rootEnds}
-use Rattle.biomass.specs.Law.Root.{root-b, root-rising}
-use Rattle.biomass.specs.Law.Ends.{Rising}
+use Rattle.biomass.specs.Root.{rootTable, y, rootEnds}
+use Rattle.biomass.specs.Law.Root.{greatestB, root-b, root-rising}
 use Rattle.biomass.specs.Law.Power.{y-most}
-use Rattle.biomass.proofs.Coefficients.{column, cast, narrow, unsigned, rising, start-read, rise-read}
+use Rattle.biomass.proofs.Coefficients.{Groups, not-negative, cast-fits, narrow, by-curve, risen, by-line}
 use Rattle.biomass.proofs.root.root_in_range.Statement.{statement}
 use Rattle.biomass.proofs.root.root_in_range.Tie as tie
 
+-- what is known of the table's groups
+groups : Groups rootTable 5 greatestB rootLimit
+groups = record { coefficient = root-b; few = lit< tt; rising = root-rising }
+
+-- the power of a diameter on the curve fits
+power-fits : {p d : ℕ} → p ≡ y d → d ≤ rootLimit → p < 2 ^ 32
+power-fits {d} is h = omega (arith, y-most d h)
+
 root-row-requires : tie.Need-root-row-requires
-root-row-requires c κs = c .pre .0 .most
+root-row-requires c κs = omega arith
 
 array-copy-out-on-curve : tie.Need-array-copy-out-on-curve
 array-copy-out-on-curve c = omega arith
 
 cast-on-curve : tie.Need-cast-on-curve
-cast-on-curve c =
-    let picked = c .before .before in
-    cast (column 0 (picked .root-row .ensures)) (root-b _ (picked .before .pre .0 .most)) (lit< tt)
+cast-on-curve c = search (not-negative groups, cast-fits groups)
 
 root-power-requires : tie.Need-root-power-requires
 root-power-requires c κs = omega arith
 
 on-curve-requires : tie.Need-on-curve-requires
-on-curve-requires c κs =
-    let picked = c .before .before .before in
-    let begin = picked .before in
-    (lit< tt, narrow (column 0 (picked .root-row .ensures)) (root-b _ (begin .pre .0 .most)) (lit< tt), omega (arith, c .root-power .ensures, y-most (begin .args .d) (omega arith)))
+on-curve-requires c κs = (lit< tt, search (narrow groups), search power-fits)
 
 returns : tie.Need-returns
 unfolding rootEnds
-returns c =
-    let picked = c .before .before .before .before in
-    let begin = picked .before in
-    let coefficient = unsigned (column 0 (picked .root-row .ensures)) (root-b _ (begin .pre .0 .most)) (lit< tt) in
-    c .on-curve .ensures
-    ∙ ap₂ (λ (z : ℤ) (p : ℕ). range (curve z p 100000)) coefficient (c .before .root-power .ensures)
-    ∙ rw (le-leb (begin .args .d) rootLimit (omega arith))
+returns c = search (by-curve groups)
 
 array-copy-out-on-line : tie.Need-array-copy-out-on-line
 array-copy-out-on-line c = omega arith
@@ -51,26 +44,12 @@ array-copy-out-on-line c = omega arith
 array-copy-out-on-line-2 : tie.Need-array-copy-out-on-line-2
 array-copy-out-on-line-2 c = omega arith
 
--- past the curve the line has risen above 0
-line : (begin : tie.Start) → rootLimit < begin .args .d → Rising (lineA (begin .args .group)) (lineB (begin .args .group)) (begin .args .d)
-line begin after = root-rising _ _ (begin .pre .0 .most) after (begin .pre .1 .most)
-
 on-line-requires : tie.Need-on-line-requires
-on-line-requires c κs =
-    let picked = c .before .before .before in
-    rising (column 1 (picked .root-row .ensures)) (column 2 (picked .root-row .ensures)) (line (picked .before) (omega arith))
+on-line-requires c κs = search (risen groups)
 
 returns-2 : tie.Need-returns-2
 unfolding rootEnds
-returns-2 c =
-    let picked = c .before .before .before .before in
-    let begin = picked .before in
-    let start-is = column 1 (picked .root-row .ensures) in
-    let rise-is = column 2 (picked .root-row .ensures) in
-    let risen = line begin (omega arith) in
-    c .on-line .ensures
-    ∙ ap₂ (λ (s r : ℤ). range (straight s r (begin .args .d))) (start-read start-is rise-is risen) (rise-read start-is rise-is risen)
-    ∙ rw (lt-leb (begin .args .d) rootLimit (omega arith))
+returns-2 c = search (by-line groups)
 
 pub root-in-range-spec : {M : Type 1} → statement M
 root-in-range-spec =

@@ -46,7 +46,7 @@ square-root-requires c κs = tt
 
 returns : tie.Need-returns
 unfolding y
-returns c = c .square-root .ensures ∙ ap (λ (x : ℕ). wholeRoot 2 (100000 * x)) (fifth (c .before .args .d))
+returns c = c .square-root .ensures ∙ ap (λ (x : ℕ). wholeRoot 2 (100000 * x)) (fifth _)
 
 pub root-power-spec : {M : Type 1} → statement M
 root-power-spec =

@@ -1,28 +1,47 @@
 -- `biomass::tariff::one_to_fifty` meets its contract: the two tests, read back from the machine's numbers, say which case of the definition holds.
-use mathlib.Core.Path.{_∙_, sym, ap}
-use lib.IntN.{ℤ, natAbs}
+use mathlib.Core.Path.{_≡_, _∙_, sym, ap}
+use mathlib.Core.Bool.{true, false}
+use lib.Dec.{T}
+use lib.IntN.{ℤ, pos, natAbs}
+use lib.Signed.{ltZ, nonNeg}
+use mir.Syntax.{w64}
+use mir.Val.{Fits, SFits}
 use mir.Facts.{toZ-ofZ, fits-natAbs}
-use Rattle.biomass.specs.Report.{gives}
+use Rattle.biomass.specs.Report.{refused, gives}
+use Rattle.biomass.specs.Tariff.{fromOneToFifty}
 use Rattle.biomass.specs.Law.Tariff.{below-one, above-fifty, one-to-fifty, not-below-one}
+use Rattle.biomass.proofs.Small.{local}
 use Rattle.biomass.proofs.tariff.one_to_fifty.Statement.{statement}
 use Rattle.biomass.proofs.tariff.one_to_fifty.Tie as tie
 
+-- what the tests say of the tariff, which they read from a local
+module _ {t : ℤ} (f : SFits w64 t) where
+  below : ltZ (local t) (pos 1) ≡ true → refused 13 ≡ fromOneToFifty t
+  below h = sym (below-one t (rw (toZ-ofZ f) at h))
+
+  above : ltZ (pos 50) (local t) ≡ true → refused 13 ≡ fromOneToFifty t
+  above h = sym (above-fifty t (rw (toZ-ofZ f) at h))
+
+  natural : ltZ (local t) (pos 1) ≡ false → T (nonNeg (local t))
+  natural h = rw (toZ-ofZ f) (not-below-one t (rw (toZ-ofZ f) at h))
+
+  size-fits : Fits w64 (natAbs (local t))
+  size-fits = rw (toZ-ofZ f) (fits-natAbs tt f)
+
+  between : ltZ (local t) (pos 1) ≡ false → ltZ (pos 50) (local t) ≡ false → gives (natAbs (local t)) ≡ fromOneToFifty t
+  between h k = ap (λ (x : ℤ). gives (natAbs x)) (toZ-ofZ f) ∙ sym (one-to-fifty t (rw (toZ-ofZ f) at h) (rw (toZ-ofZ f) at k))
+
 returns : tie.Need-returns
-returns c = sym (below-one (c .before .args .tariff) (rw (toZ-ofZ (c .before .fits .tariff)) at (c .if1 .taken)))
+returns c = search below
 
 returns-2 : tie.Need-returns-2
-returns-2 c = sym (above-fifty (c .before .before .args .tariff) (rw (toZ-ofZ (c .before .before .fits .tariff)) at (c .if2 .taken)))
+returns-2 c = search above
 
 cast-t5 : tie.Need-cast-t5
-cast-t5 c =
-    let f = c .before .before .fits .tariff in
-    rw (toZ-ofZ f) (not-below-one (c .before .before .args .tariff) (rw (toZ-ofZ f) at (c .before .if1 .left)), fits-natAbs tt f)
+cast-t5 c = search (natural, size-fits)
 
 returns-3 : tie.Need-returns-3
-returns-3 c =
-    let f = c .before .before .fits .tariff in
-    ap (λ (x : ℤ). gives (natAbs x)) (toZ-ofZ f)
-    ∙ sym (one-to-fifty (c .before .before .args .tariff) (rw (toZ-ofZ f) at (c .before .if1 .left)) (rw (toZ-ofZ f) at (c .if2 .left)))
+returns-3 c = search between
 
 pub one-to-fifty-spec : {M : Type 1} → statement M
 one-to-fifty-spec = tie.close (tie.spec returns returns-2 cast-t5 returns-3)

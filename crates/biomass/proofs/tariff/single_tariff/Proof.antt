@@ -1,35 +1,46 @@
--- `biomass::tariff::single_tariff` meets its contract: each test of the code is the definition's, and past them the three routines give the definition's three steps.
+-- `biomass::tariff::single_tariff` meets its contract: each test of the code is the definition's, and past them the three routines give the
+-- definition's three steps.
+use Prim.Native.Nat.{ℕ, _^_, _<_}
 use mathlib.Core.Path.{_≡_, _∙_, ap}
 use lib.IntN.{ℤ}
+use lib.Signed.{mag}
+use mir.Syntax.{w32}
+use mir.Val.{SFits}
 use mir.Facts.{toZ-ofZ}
-use Rattle.biomass.proofs.Small.{local, read-back}
+use Rattle.biomass.proofs.Small.{local, local32, read-back}
 use Rattle.biomass.specs.Whole.{_div_}
+use Rattle.biomass.specs.Report.{Report}
 use Rattle.biomass.specs.Tariff.{tariffSum, singleTariff, fromOneToFifty}
-use Rattle.biomass.specs.Law.Report.{refuses, goes-on, in-range}
+use Rattle.biomass.specs.Law.Report.{ranges, ranged}
 use Rattle.biomass.proofs.tariff.single_tariff.Statement.{statement}
 use Rattle.biomass.proofs.tariff.single_tariff.Tie as tie
+
+-- the sum, its quotient and what is answered of that are the definition's: each number that is handed on is read back as it is
+steps : (c1 c2 c3 c4 : ℤ) (cm tenths : ℕ) {sum quotient : ℤ} {answer : Report ℕ} →
+    sum ≡ tariffSum (local32 c1) (local32 c2) (local32 c3) (local32 c4) cm tenths →
+    quotient ≡ local sum div 100000000 → answer ≡ fromOneToFifty (local quotient) →
+    SFits w32 c1 → SFits w32 c2 → SFits w32 c3 → SFits w32 c4 → mag sum < 2 ^ 63 → mag quotient < 2 ^ 63 →
+    answer ≡ fromOneToFifty (tariffSum c1 c2 c3 c4 cm tenths div 100000000)
+steps c1 c2 c3 c4 cm tenths sum-is quotient-is answer-is f1 f2 f3 f4 sum-fits quotient-fits =
+    let read = read-back sum-fits ∙ simp (toZ-ofZ f1, toZ-ofZ f2, toZ-ofZ f3, toZ-ofZ f4) at sum-is in
+    answer-is ∙ ap fromOneToFifty (read-back quotient-fits ∙ quotient-is ∙ ap (λ (z : ℤ). z div 100000000) read)
 
 within-requires : tie.Need-within-requires
 within-requires c κs = tt
 
 returns : tie.Need-returns
 unfolding singleTariff
-returns c = refuses _ _ (c .before .within .ensures) (c .if1 .taken)
+returns c = search ranged
 
 within-requires-2 : tie.Need-within-requires-2
 within-requires-2 c κs = tt
 
 returns-2 : tie.Need-returns-2
 unfolding singleTariff
-returns-2 c =
-    let first = c .before .before in
-    goes-on _ _ _ (first .before .within .ensures) (first .if1 .left)
-    (refuses _ _ (c .before .within2 .ensures) (c .if2 .taken))
+returns-2 c = search ranged
 
 tariff-sum-requires : tie.Need-tariff-sum-requires
-tariff-sum-requires c κs =
-    let first = c .before .before in
-    (in-range (first .before .within .ensures) (first .if1 .left), in-range (c .before .within2 .ensures) (c .if2 .left))
+tariff-sum-requires c κs = search ranges
 
 hundred-millionth-requires : tie.Need-hundred-millionth-requires
 hundred-millionth-requires c κs = tt
@@ -37,24 +48,9 @@ hundred-millionth-requires c κs = tt
 one-to-fifty-requires : tie.Need-one-to-fifty-requires
 one-to-fifty-requires c κs = tt
 
--- the sum is the definition's: the four constants that are handed on are read back as they are
-sum-is : (c : tie.After-tariff-sum) →
-    let a = c .before .before .before .before .before .args in
-    local (c .tariff-sum .result) ≡ tariffSum (a .c1) (a .c2) (a .c3) (a .c4) (a .cm) (a .tenths)
-sum-is c =
-    let fits = c .before .before .before .before .before .fits in
-    read-back (c .tariff-sum .ok)
-    ∙ simp (toZ-ofZ (fits .c1), toZ-ofZ (fits .c2), toZ-ofZ (fits .c3), toZ-ofZ (fits .c4)) at (c .tariff-sum .ensures)
-
 returns-3 : tie.Need-returns-3
 unfolding singleTariff
-returns-3 c =
-    let sum = c .before .before in
-    let second = sum .before in
-    let first = second .before .before in
-    let from-quotient = read-back (c .before .hundred-millionth .ok) ∙ c .before .hundred-millionth .ensures ∙ ap (λ (z : ℤ). z div 100000000) (sum-is sum) in
-    goes-on _ _ _ (first .before .within .ensures) (first .if1 .left)
-    (goes-on _ _ _ (second .before .within2 .ensures) (second .if2 .left) (c .one-to-fifty .ensures ∙ ap fromOneToFifty from-quotient))
+returns-3 c = search (ranged, steps)
 
 pub single-tariff-spec : {M : Type 1} → statement M
 single-tariff-spec =

@@ -3,18 +3,37 @@ use mathlib.Core.Path.{_≡_, _∙_, sym, ap}
 use mathlib.Core.Bool.{Bool}
 use mathlib.Core.List.{List}
 use Prim.Native.Nat.{ℕ}
-use Rattle.biomass.specs.Report.{gives, unless}
-use Rattle.biomass.specs.Law.Report.{stops, follows}
+use borrow.Author.Needs.{needs}
+use Rattle.biomass.specs.Report.{Report, refused, _then_}
+use Rattle.biomass.specs.Law.Report.{stops, follows, stop-unless, past-unless}
+use Rattle.survey.specs.Refusal.{number}
+use Rattle.survey.specs.declared.command.Command.{Command}
+use Rattle.survey.specs.declared.refusal.Refusal.{Refusal}
 use Rattle.fieldbook.specs.Numbers.{made, commandOf}
 use Rattle.fieldbook.specs.Numbers as Numbers
+use Rattle.fieldbook.specs.declared.commands.Made.{Made}
 use Rattle.fieldbook.proofs.commands.command_of.Statement.{statement}
 use Rattle.fieldbook.proofs.commands.command_of.Tie as tie
+
+-- what follows the command that was cut, or that there is none
+module _ {first : Report Command} (answer : Made) (f : Command → Report Command) (promise : made answer ≡ first) where
+  was-cut : {k : Command} {x : Report Command} → answer ≡ Made.Is k → x ≡ f k → x ≡ (first then f)
+  was-cut is = follows first f (sym promise ∙ ap made is)
+
+  not-cut : {why : Refusal} → answer ≡ Made.Refused why → refused (number why) ≡ (first then f)
+  not-cut is = stops first f (sym promise ∙ ap made is)
+
+-- what the code's test says of the command's own numbers
+compared : {answer test : Bool} {l m : List ℕ} (ns : List ℕ) → l ≡ m → answer ≡ Numbers.same l ns → answer ≡ test → Numbers.same m ns ≡ test
+compared ns are told e = ap (λ (l : List ℕ). Numbers.same l ns) (sym are) ∙ sym told ∙ e
+
+ruleset made-checks = (was-cut, not-cut, stop-unless, past-unless, compared)
 
 cut-requires : tie.Need-cut-requires
 cut-requires c κs = tt
 
 enum-known-command : tie.Need-enum-known-command
-enum-known-command c = c .match .keys1
+enum-known-command c = search needs
 
 numbers-of-requires : tie.Need-numbers-of-requires
 numbers-of-requires c κs = tt
@@ -23,29 +42,19 @@ same-requires : tie.Need-same-requires
 same-requires c κs = tt
 
 enum-known-why : tie.Need-enum-known-why
-enum-known-why c = c .match .keys2
-
--- what the code's test says of the command that was cut
-checked : (c : tie.After-same) {answer : Bool} → c .same .result ≡ answer →
-    let known = c .before .before .before in
-    unless answer 6 (gives (known .command .given .0 .0)) ≡ commandOf (known .before .before .before .args .n)
-unfolding commandOf
-checked c e =
-    let known = c .before .before .before in
-    let ns = known .before .before .before .args .n in
-    let command = known .command .given .0 .0 in
-    follows _ _ (sym (known .before .before .cut .ensures) ∙ ap made (known .command .given .1))
-    (ap (λ (b : Bool). unless b 6 (gives command)) (sym e ∙ c .same .ensures ∙ ap (λ (l : List ℕ). Numbers.same l ns) (c .before .numbers-of .ensures)))
+enum-known-why c = search needs
 
 returns : tie.Need-returns
-returns c = checked (c .before) (c .if1 .taken)
+unfolding commandOf
+returns c = search made-checks
 
 returns-2 : tie.Need-returns-2
-returns-2 c = checked (c .before) (c .if1 .left)
+unfolding commandOf
+returns-2 c = search made-checks
 
 returns-3 : tie.Need-returns-3
 unfolding commandOf
-returns-3 c = stops _ _ (sym (c .before .before .before .cut .ensures) ∙ ap made (c .before .why .given .1))
+returns-3 c = search made-checks
 
 pub command-of-spec : {M : Type 1} → statement M
 command-of-spec =

@@ -1,11 +1,7 @@
 -- `fieldbook::commands::cut` meets its contract: each arm of the match makes the command that the definition has for the arm's byte.
-use Prim.Native.Nat.{ℕ}
 use native.Mathlib.Omega.{arith}
-use mathlib.Core.Path.{_≡_}
-use mathlib.Core.List.{List}
-use lib.ListN.{getD}
 use borrow.Author.Tests.{ne-eqb}
-use Rattle.biomass.specs.Report.{refused}
+use Rattle.biomass.specs.Law.Report.{if-not}
 use Rattle.fieldbook.specs.Numbers as Numbers
 use Rattle.fieldbook.proofs.commands.cut.Statement.{statement}
 use Rattle.fieldbook.proofs.commands.cut.Tie as tie
@@ -46,13 +42,6 @@ array-read-match c = omega arith
 species-of-requires : tie.Need-species-of-requires
 species-of-requires c κs = tt
 
-unknown : (ns : List ℕ) → let b = getD ns 0 0 in
-    (b ≡ 1 → ⊥) → (b ≡ 2 → ⊥) → (b ≡ 3 → ⊥) → (b ≡ 4 → ⊥) → (b ≡ 5 → ⊥) → (b ≡ 6 → ⊥) → (b ≡ 7 → ⊥) → refused 2 ≡ Numbers.cut ns
-unfolding Numbers.cut
-unknown ns h₁ h₂ h₃ h₄ h₅ h₆ h₇ =
-    let b = getD ns 0 0 in
-    rw (ne-eqb b 1 h₁, ne-eqb b 2 h₂, ne-eqb b 3 h₃, ne-eqb b 4 h₄, ne-eqb b 5 h₅, ne-eqb b 6 h₆, ne-eqb b 7 h₇)
-
 returns : tie.Need-returns
 unfolding Numbers.cut
 returns c = rw (c .before .match .keys1, c .species-of .ensures)
@@ -81,11 +70,10 @@ returns-7 : tie.Need-returns-7
 unfolding Numbers.cut
 returns-7 c = rw (c .match .keys7)
 
+-- no command has another byte
 returns-8 : tie.Need-returns-8
-returns-8 c =
-    let rest = c .match .rest in
-    unknown (c .before .args .t1) (rest .0 .0 .0 .0 .0 .0 .1) (rest .0 .0 .0 .0 .0 .1) (rest .0 .0 .0 .0 .1) (rest .0 .0 .0 .1) (rest .0 .0 .1) (rest .0 .1)
-    (rest .1)
+unfolding Numbers.cut
+returns-8 c = search (if-not, ne-eqb) depth 20
 
 pub cut-spec : {M : Type 1} → statement M
 cut-spec =

@@ -46,10 +46,18 @@ differ (x ∷ xs) [] i h = refl
 differ (x ∷ xs) (y ∷ ys) zero h = rw (ne-eqb x y h)
 differ (x ∷ xs) (y ∷ ys) (suc i) h = rw (← differ xs ys i h) (and-false (eqb x y))
 
+-- at an index that the code has come to
+differ-at : {i : ℕ} (a b : List ℕ) → i < 9 → (getD a i 0 ≡ getD b i 0 → ⊥) → false ≡ Numbers.same a b
+differ-at {i} a b inside = differ a b i
+
+-- lists of 9 numbers that agree up to the index at which the code ends
+agree : (a b : List ℕ) (i : ℕ) → length a ≡ 9 → length b ≡ 9 → 9 ≤ i → ((k : ℕ) → k < i → getD a k 0 ≡ getD b k 0) → true ≡ Numbers.same a b
+agree a b i of-a of-b end all =
+    let is : a ≡ b = ext-getD 0 a b (omega arith) λ k below. all k (omega arith) in
+    sym (ap (Numbers.same a) (sym is) ∙ same-itself a)
+
 returns : tie.Need-returns Inv-loop μ-loop
-returns c =
-    let at = c .before .before in
-    differ (at .before .args .t1) (at .before .args .t2) (at .loop .i) (c .if1 .taken)
+returns c = search differ-at
 
 add-i : tie.Need-add-i Inv-loop μ-loop
 add-i c = omega arith
@@ -58,17 +66,10 @@ loop-less : tie.Need-loop-less Inv-loop μ-loop
 loop-less c = omega arith
 
 loop-again : tie.Need-loop-again Inv-loop μ-loop
-loop-again c = (omega arith, below-more _ _ (c .before .before .loop .inv .1) (c .if1 .left))
+loop-again c = (omega arith, below-more _ _ (search) (search))
 
 returns-2 : tie.Need-returns-2 Inv-loop μ-loop
-returns-2 c =
-    let start = c .before .before in
-    let a = start .args .t1 in
-    let b = start .args .t2 in
-    let of-a : length a ≡ 9 = start .good .0 .1 .0 .1 in
-    let of-b : length b ≡ 9 = start .good .1 .0 .1 .0 .1 in
-    let all : a ≡ b = ext-getD 0 a b (omega arith) λ i below. c .before .loop .inv .1 i (omega arith) in
-    sym (ap (Numbers.same a) (sym all) ∙ same-itself a)
+returns-2 c = search agree
 
 pub same-spec : {M : Type 1} → statement M
 same-spec =

@@ -2,13 +2,26 @@
 use Prim.Native.Nat.{ℕ, _^_, _<_}
 use native.Mathlib.Omega.{arith}
 use mathlib.Core.Path.{_≡_, _∙_, ap}
+use mathlib.Core.List.{[], _∷_}
 use lib.IntN.{ℤ}
 use lib.Signed.{mag}
 use Rattle.survey.specs.Bytes.{unsigned}
+use Rattle.survey.specs.declared.command.Species.{Species}
+use Rattle.survey.specs.declared.command.Command.{Command}
 use Rattle.survey.proofs.Complement.{word, read-back}
-use Rattle.fieldbook.specs.Numbers.{extended}
+use Rattle.fieldbook.specs.Numbers.{extended, numbers}
 use Rattle.fieldbook.proofs.commands.species_numbers.Statement.{statement}
 use Rattle.fieldbook.proofs.commands.species_numbers.Tie as tie
+
+-- a constant is made wide as it stands in its field, which is as it was
+wide-is : {n : ℕ} (z : ℤ) → mag z < 2 ^ 31 → n ≡ extended (unsigned (word z)) → n ≡ extended (unsigned z)
+wide-is z small e = e ∙ ap (λ z. extended (unsigned z)) (read-back z small)
+
+-- the numbers of a species are those of its constants
+same-numbers : {n1 n2 n3 n4 : ℕ} (id : ℕ) (s : Species) → n1 ≡ extended (unsigned (s .c1)) → n2 ≡ extended (unsigned (s .c2))
+    → n3 ≡ extended (unsigned (s .c3)) → n4 ≡ extended (unsigned (s .c4))
+    → 1 ∷ id ∷ s .crown ∷ s .root ∷ s .gravity ∷ n1 ∷ n2 ∷ n3 ∷ n4 ∷ [] ≡ numbers (Command.Species id s)
+same-numbers id s e1 e2 e3 e4 = cc
 
 cast-t4 : tie.Need-cast-t4
 cast-t4 c = omega arith
@@ -31,18 +44,8 @@ wide-requires-3 c κs = tt
 wide-requires-4 : tie.Need-wide-requires-4
 wide-requires-4 c κs = tt
 
-wide-is : {n : ℕ} (z : ℤ) → mag z < 2 ^ 31 → n ≡ extended (unsigned (word z)) → n ≡ extended (unsigned z)
-wide-is z small e = e ∙ ap (λ z. extended (unsigned z)) (read-back z small)
-
 returns : tie.Need-returns
-returns c =
-    let s = c .before .before .before .before .before .before .before .before .before .before .before .args .s in
-    rw (
-      wide-is (s .c1) (c .before .before .before .before .before .before .before .struct-told .given .1 .1 .1 .0 .1) (c .before .before .before .before .before .before .wide .ensures),
-      wide-is (s .c2) (c .before .before .before .before .before .struct-told2 .given .1 .1 .1 .1 .0 .1) (c .before .before .before .before .wide2 .ensures),
-      wide-is (s .c3) (c .before .before .before .struct-told3 .given .1 .1 .1 .1 .1 .0 .1) (c .before .before .wide3 .ensures),
-      wide-is (s .c4) (c .before .struct-told4 .given .1 .1 .1 .1 .1 .1 .0 .1) (c .wide4 .ensures),
-    )
+returns c = search (same-numbers, wide-is)
 
 pub species-numbers-spec : {M : Type 1} → statement M
 species-numbers-spec =

@@ -1,7 +1,6 @@
 -- `fieldbook::commands::species_of` meets its contract: each constant is read back from its field as the call gave it.
 use native.Mathlib.Omega.{arith}
-use mathlib.Core.Path.{_∙_}
-use Rattle.survey.proofs.Complement.{read-back}
+use Rattle.survey.proofs.Complement.{given-back, same-species}
 use Rattle.fieldbook.proofs.commands.species_of.Statement.{statement}
 use Rattle.fieldbook.proofs.commands.species_of.Tie as tie
 
@@ -48,13 +47,7 @@ narrow-requires-4 : tie.Need-narrow-requires-4
 narrow-requires-4 c κs = tt
 
 returns : tie.Need-returns
-returns c =
-    rw (
-      read-back _ (c .before .before .before .narrow .ok) ∙ c .before .before .before .narrow .ensures,
-      read-back _ (c .before .before .narrow2 .ok) ∙ c .before .before .narrow2 .ensures,
-      read-back _ (c .before .narrow3 .ok) ∙ c .before .narrow3 .ensures,
-      read-back _ (c .narrow4 .ok) ∙ c .narrow4 .ensures,
-    )
+returns c = search (same-species, given-back)
 
 pub species-of-spec : {M : Type 1} → statement M
 species-of-spec =

@@ -8,10 +8,10 @@ stop-requires : tie.Need-stop-requires
 stop-requires c κs = tt
 
 returns : tie.Need-returns
-returns c = c .stop .ensures .1 ∙ rw (lt-ltb _ _ (c .before .if1 .taken))
+returns c = λ s. c .stop .ensures s ∙ rw (lt-ltb _ _ (c .before .if1 .taken))
 
 returns-2 : tie.Need-returns-2
-returns-2 c = rw (le-ltb _ _ (c .if1 .left))
+returns-2 c = λ s. rw (le-ltb _ _ (c .if1 .left))
 
 pub end-spec : {M : Type 1} → statement M
 end-spec = tie.close (tie.spec stop-requires returns returns-2)

@@ -1,21 +1,25 @@
 -- `survey::playing::play` meets its contract. The invariant of both loops: playing on from here, with the line that is left aside put back, comes to what
--- playing the whole book comes to. Each command moves the place on.
+-- playing the whole book comes to. Each command moves the place on. What is decided of a command is what it makes of the survey, so that the survey with the
+-- change stored is the one that it leaves.
 use Prim.Native.Nat.{ℕ, _-_, _≤_, _<_}
 use native.Mathlib.Omega.{arith}
-use mathlib.Core.Path.{_≡_, _∙_, sym, ap}
+use mathlib.Core.Path.{_≡_, _∙_, refl, sym, ap}
 use mathlib.Core.Bool.{false}
 use mathlib.Core.List.{List}
 use lib.ListN.{length}
-use Rattle.biomass.specs.Report.{refused, gives}
-use Rattle.survey.specs.Refusal.{number}
-use Rattle.survey.specs.Survey.{fresh, withLine}
-use Rattle.survey.specs.Playing.{stepped, step, playFrom, play}
+use borrow.Author.Needs.{needs}
+use Rattle.biomass.specs.Report.{gives}
+use Rattle.survey.specs.Reading.{read, reading}
+use Rattle.survey.specs.Survey.{fresh, withLine, withEnd, opened}
+use Rattle.survey.specs.Change.{changed}
+use Rattle.survey.specs.Playing.{playFrom, play}
 use Rattle.survey.specs.Noting.{noting}
-use Rattle.survey.specs.Law.Playing.{step-moves, plays-refused, plays-on, plays-after-end, note-line, note-refused, note-moves}
-use Rattle.survey.specs.declared.refusal.Refusal.{Refusal}
+use Rattle.survey.specs.Law.Change.{Made, decides}
+use Rattle.survey.specs.Law.Playing.{plays-refused, plays-after-end, On, plays-taken, plays-declined, plays-unread, note-refused, plays-noted}
+use Rattle.survey.specs.declared.command.Command.{Command}
 use Rattle.survey.specs.declared.survey.Survey.{Survey}
-use Rattle.survey.specs.declared.survey.Outcome.{Outcome}
-use Rattle.survey.specs.declared.playing.Played.{Played}
+use Rattle.survey.specs.declared.change.Change.{Change}
+use Rattle.survey.proofs.Check.{species-place, factor-place, row-place}
 use Rattle.survey.proofs.playing.play.Statement.{statement}
 use Rattle.survey.proofs.playing.play.Tie as tie
 
@@ -31,6 +35,71 @@ Inv-lines book survey₀ at₀ survey at = (at ≤ length book) × (survey .ende
 abbrev μ-lines : tie.MeasureT-lines
 μ-lines book survey₀ at₀ survey at = length book - at
 
+-- In the inner loop, and so after it: the book, the survey, which has not ended, and the survey with the line put back
+abbrev book-in : tie.At-loop Inv-loop μ-loop Inv-lines μ-lines → List ℕ
+book-in c = c .before .before .before .before .before .args .book .now
+
+abbrev survey-in : tie.At-loop Inv-loop μ-loop Inv-lines μ-lines → Survey
+survey-in c = c .before .before .lines .survey
+
+not-ended : (c : tie.At-loop Inv-loop μ-loop Inv-lines μ-lines) → survey-in c .ended ≡ false
+not-ended c = c .before .before .lines .inv .1
+
+abbrev survey-at : tie.At-loop Inv-loop μ-loop Inv-lines μ-lines → Survey
+survey-at c = withLine (survey-in c) (c .loop .line)
+
+-- a command that was noted on the line
+noted-on : (c : tie.After-after Inv-loop μ-loop Inv-lines μ-lines) →
+    let at = c .before .before .before .before in
+    On (book-in at) (at .loop .at) (survey-at at) (c .after .given .0 .1 .0) (withLine (survey-in at) (c .after .given .0 .0))
+noted-on c =
+    let turn = c .before .before .before in
+    let at = turn .before in
+    let is = sym (c .before .before .note .ensures) ∙ ap noting (c .after .given .1) in
+    plays-noted (book-in at) (at .loop .at) (survey-in at) (at .loop .line) _ _ (not-ended at) (turn .loop-test .taken) is
+
+-- Where a command is decided: after which turn, and what was read
+abbrev read-of : tie.After-decide Inv-loop μ-loop Inv-lines μ-lines → tie.After-command Inv-loop μ-loop Inv-lines μ-lines
+read-of d = d .before .before .before .before .before .before .before .before .before
+
+abbrev in-line : tie.After-decide Inv-loop μ-loop Inv-lines μ-lines → tie.At-loop Inv-loop μ-loop Inv-lines μ-lines
+in-line d = read-of d .before .before .before .before
+
+abbrev command-of : tie.After-decide Inv-loop μ-loop Inv-lines μ-lines → Command
+command-of d = read-of d .command .given .0 .0
+
+abbrev next-of : tie.After-decide Inv-loop μ-loop Inv-lines μ-lines → ℕ
+next-of d = read-of d .command .given .0 .1 .0
+
+read-so : (d : tie.After-decide Inv-loop μ-loop Inv-lines μ-lines) → read (book-in (in-line d)) (in-line d .loop .at) ≡ gives (command-of d, next-of d)
+read-so d = sym (read-of d .before .before .read .ensures .0) ∙ ap reading (read-of d .command .given .1)
+
+-- what is decided is what the command makes of the survey
+made : (d : tie.After-decide Inv-loop μ-loop Inv-lines μ-lines) → Made (command-of d) (survey-at (in-line d)) (d .decide .result)
+unfolding opened
+made d =
+    let named = d .before .before .before .before .before .before .before in
+    decides _ _ (named .names .result) _ _ (not-ended (in-line d)) (named .names .ensures) (search) (d .decide .ensures)
+
+-- so playing goes on from the survey with the change stored, where there is one
+module _ (d : tie.After-decide Inv-loop μ-loop Inv-lines μ-lines) {change : Change} {t : Survey} (is : d .decide .result ≡ change)
+    (stored : changed change (survey-at (in-line d)) ≡ gives t) where
+  moved : On (book-in (in-line d)) (in-line d .loop .at) (survey-at (in-line d)) (next-of d) t
+  moved =
+      let s = survey-at (in-line d) in
+      plays-taken _ _ s _ _ (read-so d) t (not-ended (in-line d)) (made d .is ∙ ap (λ (k : Change). changed k s) is ∙ stored)
+
+  on : playFrom (book-in (in-line d)) (next-of d) t ≡ play (book-in (in-line d))
+  on = sym (moved .plays) ∙ in-line d .loop .inv .2
+
+  -- further on in the book than where the line was begun
+  less : length (book-in (in-line d)) - next-of d < length (book-in (in-line d)) - in-line d .before .before .lines .at
+  less = omega (arith, moved .moves, moved .inside, in-line d .loop .inv .0)
+
+  again : t .ended ≡ survey-in (in-line d) .ended
+      → (next-of d ≤ length (book-in (in-line d))) × (t .ended ≡ false) × (playFrom (book-in (in-line d)) (next-of d) t ≡ play (book-in (in-line d)))
+  again same = (moved .inside, same ∙ not-ended (in-line d), on)
+
 new-requires : tie.Need-new-requires Inv-loop μ-loop Inv-lines μ-lines
 new-requires c κs = tt
 
@@ -40,135 +109,165 @@ lines-holds c =
     let is = c .new .ensures in
     (omega arith, ap (λ (s : Survey). s .ended) is, ap (playFrom (c .before .before .args .book .now) 0) is)
 
-step-requires : tie.Need-step-requires Inv-loop μ-loop Inv-lines μ-lines
-step-requires c κs = tt
-
-enum-known-outcome : tie.Need-enum-known-outcome Inv-loop μ-loop Inv-lines μ-lines
-enum-known-outcome c = c .match .keys1
-
-stop-requires : tie.Need-stop-requires Inv-loop μ-loop Inv-lines μ-lines
-stop-requires c κs = tt
-
-enum-told : tie.Need-enum-told Inv-loop μ-loop Inv-lines μ-lines
-enum-told c = c .match .keys2
-
-end-requires : tie.Need-end-requires Inv-loop μ-loop Inv-lines μ-lines
-end-requires c κs = tt
-
--- what a step came to, where the command was taken and where it was refused
-done : (p : Played) → p .outcome ≡ Outcome.Done → stepped p ≡ gives (p .survey, p .at)
-done p e = rw e
-
-not-done : (p : Played) (why : Refusal) → p .outcome ≡ Outcome.Refused why → stepped p ≡ refused (number why)
-not-done p why e = rw e
-
--- the book, seen from the outer loop, and the survey's last command, seen from the inner one
-abbrev book-at : tie.At-lines Inv-loop μ-loop Inv-lines μ-lines → List ℕ
-book-at c = c .before .before .before .args .book .now
-
-abbrev before-line : tie.At-loop Inv-loop μ-loop Inv-lines μ-lines → tie.After-enum-told Inv-loop μ-loop Inv-lines μ-lines
-before-line c = c .before .before .before .before
-
-abbrev book-in : tie.At-loop Inv-loop μ-loop Inv-lines μ-lines → List ℕ
-book-in c = book-at (before-line c .before .before .before)
-
-abbrev survey-in : tie.At-loop Inv-loop μ-loop Inv-lines μ-lines → Survey
-survey-in c = before-line c .before .before .step .result .survey
-
--- after a command that was taken: further on in the book, and playing goes on from there
-taken : (c : tie.After-enum-told Inv-loop μ-loop Inv-lines μ-lines) →
-    let at = c .before .before .before in
-    let r = c .before .before .step .result in
-    (at .lines .at < r .at) × (r .at ≤ length (book-at at)) × (playFrom (book-at at) (r .at) (r .survey) ≡ play (book-at at))
-taken c =
-    let at = c .before .before .before in
-    let r = c .before .before .step .result in
-    let is = sym (c .before .before .step .ensures) ∙ done r (c .enum-told .given .1) in
-    let moves = step-moves (book-at at) (at .lines .at) (at .lines .survey) (r .survey) (r .at) is in
-    (moves .0, moves .1, sym (plays-on (book-at at) (at .lines .at) (at .lines .survey) (r .survey) (r .at) (at .lines .inv .1) is) ∙ at .lines .inv .2)
-
--- and so after one that was noted on the line
-noted-on : (c : tie.After-after Inv-loop μ-loop Inv-lines μ-lines) →
-    let at = c .before .before .before .before in
-    let next = c .after .given .0 .1 .0 in
-    (at .loop .at < next) × (next ≤ length (book-in at)) × (playFrom (book-in at) next (withLine (survey-in at) (c .after .given .0 .0)) ≡ play (book-in at))
-noted-on c =
-    let turn = c .before .before .before in
-    let at = turn .before in
-    let l = at .loop .line in
-    let m = c .after .given .0 .0 in
-    let next = c .after .given .0 .1 .0 in
-    let not-ended = at .before .before .if1 .left in
-    let is = sym (c .before .before .note .ensures) ∙ ap noting (c .after .given .1) in
-    let moves = note-moves (book-in at) (at .loop .at) l m next is in
-    let takes = note-line (book-in at) (at .loop .at) (survey-in at) l m next not-ended (turn .loop-test .taken) is in
-    (moves .0, moves .1, sym (plays-on (book-in at) (at .loop .at) (withLine (survey-in at) l) (withLine (survey-in at) m) next not-ended takes) ∙ at .loop .inv .2)
-
 loop-holds : tie.Need-loop-holds Inv-loop μ-loop Inv-lines μ-lines
-loop-holds c =
-    let t = taken (c .before .before .before) in
-    (omega arith, t .1, t .2)
+loop-holds c = (omega arith, c .before .lines .inv .0, c .before .lines .inv .2)
 
 note-requires : tie.Need-note-requires Inv-loop μ-loop Inv-lines μ-lines
 note-requires c κs = tt
 
 enum-known-after : tie.Need-enum-known-after Inv-loop μ-loop Inv-lines μ-lines
-enum-known-after c = c .match2 .keys1
+enum-known-after c = c .match .keys1
 
 loop-less : tie.Need-loop-less Inv-loop μ-loop Inv-lines μ-lines
-loop-less c = omega (arith, noted-on (c .before) .0, noted-on (c .before) .1)
+loop-less c = omega (arith, noted-on (c .before) .moves, noted-on (c .before) .inside)
 
 loop-again : tie.Need-loop-again Inv-loop μ-loop Inv-lines μ-lines
 loop-again c =
     let n = noted-on (c .before) in
-    (omega (arith, n .0, c .before .before .before .before .before .loop .inv .0), n .1, n .2)
+    let at = c .before .before .before .before .before .loop in
+    (omega (arith, n .moves, at .inv .0), n .inside, sym (n .plays) ∙ at .inv .2)
 
-enum-told-2 : tie.Need-enum-told-2 Inv-loop μ-loop Inv-lines μ-lines
-enum-told-2 c = c .match2 .keys2
+enum-told : tie.Need-enum-told Inv-loop μ-loop Inv-lines μ-lines
+enum-told c = c .match .keys2
 
 enum-known-why : tie.Need-enum-known-why Inv-loop μ-loop Inv-lines μ-lines
-enum-known-why c = c .match2 .keys3
+enum-known-why c = c .match .keys3
+
+stop-requires : tie.Need-stop-requires Inv-loop μ-loop Inv-lines μ-lines
+stop-requires c κs = tt
+
+read-requires : tie.Need-read-requires Inv-loop μ-loop Inv-lines μ-lines
+read-requires c κs = tt
+
+enum-known-why-2 : tie.Need-enum-known-why-2 Inv-loop μ-loop Inv-lines μ-lines
+enum-known-why-2 c = c .match2 .keys1
 
 stop-requires-2 : tie.Need-stop-requires-2 Inv-loop μ-loop Inv-lines μ-lines
 stop-requires-2 c κs = tt
 
-with-line-requires : tie.Need-with-line-requires Inv-loop μ-loop Inv-lines μ-lines
-with-line-requires c κs = tt
+enum-known-command : tie.Need-enum-known-command Inv-loop μ-loop Inv-lines μ-lines
+enum-known-command c = c .match2 .keys2
+
+names-requires : tie.Need-names-requires Inv-loop μ-loop Inv-lines μ-lines
+names-requires c κs = tt
+
+cast-i : tie.Need-cast-i Inv-loop μ-loop Inv-lines μ-lines
+cast-i c = omega arith
+
+mul-there : tie.Need-mul-there Inv-loop μ-loop Inv-lines μ-lines
+mul-there c = search needs
+
+element-copy-out-there : tie.Need-element-copy-out-there Inv-loop μ-loop Inv-lines μ-lines
+element-copy-out-there c = search needs
+
+has-row-requires : tie.Need-has-row-requires Inv-loop μ-loop Inv-lines μ-lines
+has-row-requires c κs = tt
+
+decide-requires : tie.Need-decide-requires Inv-loop μ-loop Inv-lines μ-lines
+decide-requires c κs = tt
+
+enum-known-id : tie.Need-enum-known-id Inv-loop μ-loop Inv-lines μ-lines
+enum-known-id c = c .match3 .keys1
+
+cast-i-2 : tie.Need-cast-i-2 Inv-loop μ-loop Inv-lines μ-lines
+cast-i-2 c = omega arith
+
+mul-species : tie.Need-mul-species Inv-loop μ-loop Inv-lines μ-lines
+mul-species c = omega (arith, species-place _ (made (c .before .before .before) .place) (c .before .id .given .1))
+
+element-set-from-species : tie.Need-element-set-from-species Inv-loop μ-loop Inv-lines μ-lines
+element-set-from-species c = species-place _ (made (c .before .before .before) .place) (c .before .id .given .1)
+
+enum-known-cm : tie.Need-enum-known-cm Inv-loop μ-loop Inv-lines μ-lines
+enum-known-cm c = c .match3 .keys2
+
+cast-i-3 : tie.Need-cast-i-3 Inv-loop μ-loop Inv-lines μ-lines
+cast-i-3 c = omega arith
+
+element-write-survey : tie.Need-element-write-survey Inv-loop μ-loop Inv-lines μ-lines
+element-write-survey c = factor-place _ (made (c .before .before .before) .place) (c .before .cm .given .1)
+
+enum-known-after-2 : tie.Need-enum-known-after-2 Inv-loop μ-loop Inv-lines μ-lines
+enum-known-after-2 c = c .match3 .keys3
+
+enum-known-row : tie.Need-enum-known-row Inv-loop μ-loop Inv-lines μ-lines
+enum-known-row c = c .match3 .keys4
+
+mul-row : tie.Need-mul-row Inv-loop μ-loop Inv-lines μ-lines
+mul-row c = omega (arith, row-place _ (made (c .before .before .before) .place) (c .before .row .given .1))
+
+element-set-from-row : tie.Need-element-set-from-row Inv-loop μ-loop Inv-lines μ-lines
+element-set-from-row c = row-place _ (made (c .before .before .before) .place) (c .before .row .given .1)
+
+add-survey : tie.Need-add-survey Inv-loop μ-loop Inv-lines μ-lines
+add-survey c = omega (arith, row-place _ (made (c .before .before .before) .place) (c .before .row .given .1))
+
+enum-told-2 : tie.Need-enum-told-2 Inv-loop μ-loop Inv-lines μ-lines
+enum-told-2 c = c .match3 .keys5
+
+end-requires : tie.Need-end-requires Inv-loop μ-loop Inv-lines μ-lines
+end-requires c κs = tt
+
+enum-known-why-3 : tie.Need-enum-known-why-3 Inv-loop μ-loop Inv-lines μ-lines
+enum-known-why-3 c = c .match3 .keys6
+
+stop-requires-3 : tie.Need-stop-requires-3 Inv-loop μ-loop Inv-lines μ-lines
+stop-requires-3 c κs = tt
 
 lines-less : tie.Need-lines-less Inv-loop μ-loop Inv-lines μ-lines
-lines-less c =
-    let at = c .before .before in
-    let t = taken (before-line at) in
-    omega (arith, t .0, at .loop .inv .0, at .loop .inv .1)
+lines-less c = less (c .before .before .before) (c .before .id .given .1) refl
 
 lines-again : tie.Need-lines-again Inv-loop μ-loop Inv-lines μ-lines
-lines-again c =
-    let at = c .before .before in
-    let is = c .with-line .ensures in
-    (at .loop .inv .1, ap (λ (s : Survey). s .ended) is ∙ at .before .before .if1 .left, ap (playFrom (book-in at) (at .loop .at)) is ∙ at .loop .inv .2)
+lines-again c = again (c .before .before .before) (c .before .id .given .1) refl refl
+
+lines-less-2 : tie.Need-lines-less-2 Inv-loop μ-loop Inv-lines μ-lines
+lines-less-2 c = less (c .before .before .before) (c .before .cm .given .1) refl
+
+lines-again-2 : tie.Need-lines-again-2 Inv-loop μ-loop Inv-lines μ-lines
+lines-again-2 c = again (c .before .before .before) (c .before .cm .given .1) refl refl
+
+lines-less-3 : tie.Need-lines-less-3 Inv-loop μ-loop Inv-lines μ-lines
+lines-less-3 c = less (c .before .before .before) (c .before .after2 .given .1) refl
+
+lines-again-3 : tie.Need-lines-again-3 Inv-loop μ-loop Inv-lines μ-lines
+lines-again-3 c = again (c .before .before .before) (c .before .after2 .given .1) refl refl
+
+lines-less-4 : tie.Need-lines-less-4 Inv-loop μ-loop Inv-lines μ-lines
+lines-less-4 c = less (c .before .before .before) (c .before .row .given .1) refl
+
+lines-again-4 : tie.Need-lines-again-4 Inv-loop μ-loop Inv-lines μ-lines
+lines-again-4 c = again (c .before .before .before) (c .before .row .given .1) refl refl
 
 returns : tie.Need-returns Inv-loop μ-loop Inv-lines μ-lines
 returns c =
     let known = c .before .before in
-    let at = known .before .before .before in
-    let is = sym (known .before .before .step .ensures) ∙ not-done _ _ (known .outcome .given .1) in
-    c .stop .ensures .1 ∙ sym (plays-refused _ _ _ _ (at .lines .inv .1) is) ∙ at .lines .inv .2
+    let turn = known .before .before .before in
+    let at = turn .before in
+    let is = sym (known .before .before .note .ensures) ∙ ap noting (known .why .given .1) in
+    let refuses = note-refused (book-in at) (at .loop .at) (survey-in at) (at .loop .line) _ (not-ended at) (turn .loop-test .taken) is in
+    c .stop .ensures (survey-in at) ∙ sym (plays-refused (book-in at) (at .loop .at) (withLine (survey-in at) (at .loop .line)) _ (not-ended at) refuses) ∙ at .loop .inv .2
 
 returns-2 : tie.Need-returns-2 Inv-loop μ-loop Inv-lines μ-lines
 returns-2 c =
-    let t = c .before .before .before in
-    let r = t .before .before .step .result in
-    c .end .ensures ∙ sym (plays-after-end (book-at (t .before .before .before)) (r .at) (r .survey) (c .before .if1 .taken)) ∙ taken t .2
+    let known = c .before .before in
+    let r = known .before .before in
+    let at = r .before .before in
+    let is = sym (r .read .ensures .0) ∙ ap reading (known .why2 .given .1) in
+    c .stop2 .ensures (survey-at at) ∙ sym (plays-unread (book-in at) (at .loop .at) (survey-at at) _ (not-ended at) is) ∙ at .loop .inv .2
 
 returns-3 : tie.Need-returns-3 Inv-loop μ-loop Inv-lines μ-lines
 returns-3 c =
+    let d = c .before .before .before in
+    let t = withEnd (survey-at (in-line d)) in
+    c .end .ensures t ∙ sym (plays-after-end (book-in (in-line d)) _ t refl) ∙ on d (c .before .enum-told2 .given .1) refl
+
+returns-4 : tie.Need-returns-4 Inv-loop μ-loop Inv-lines μ-lines
+returns-4 c =
     let known = c .before .before in
-    let turn = known .before .before .before in
-    let at = turn .before in
-    let not-ended = at .before .before .if1 .left in
-    let is = sym (known .before .before .note .ensures) ∙ ap noting (known .why .given .1) in
-    let refuses = note-refused (book-in at) (at .loop .at) (survey-in at) (at .loop .line) _ not-ended (turn .loop-test .taken) is in
-    c .stop2 .ensures .1 ∙ sym (plays-refused (book-in at) (at .loop .at) (withLine (survey-in at) (at .loop .line)) _ not-ended refuses) ∙ at .loop .inv .2
+    let d = known .before .before in
+    let at = in-line d in
+    let is = made d .is ∙ ap (λ (k : Change). changed k (survey-at at)) (known .why3 .given .1) in
+    c .stop3 .ensures (survey-at at) ∙ sym (plays-declined (book-in at) (at .loop .at) (survey-at at) _ _ (read-so d) _ (not-ended at) is) ∙ at .loop .inv .2
 
 pub play-spec : {M : Type 1} → statement M
 play-spec =
@@ -180,22 +279,49 @@ play-spec =
     μ-lines
     new-requires
     lines-holds
-    step-requires
-    enum-known-outcome
-    stop-requires
-    enum-told
-    end-requires
     loop-holds
     note-requires
     enum-known-after
     loop-less
     loop-again
-    enum-told-2
+    enum-told
     enum-known-why
+    stop-requires
+    read-requires
+    enum-known-why-2
     stop-requires-2
-    with-line-requires
+    enum-known-command
+    names-requires
+    cast-i
+    mul-there
+    element-copy-out-there
+    has-row-requires
+    decide-requires
+    enum-known-id
+    cast-i-2
+    mul-species
+    element-set-from-species
+    enum-known-cm
+    cast-i-3
+    element-write-survey
+    enum-known-after-2
+    enum-known-row
+    mul-row
+    element-set-from-row
+    add-survey
+    enum-told-2
+    end-requires
+    enum-known-why-3
+    stop-requires-3
     lines-less
     lines-again
+    lines-less-2
+    lines-again-2
+    lines-less-3
+    lines-again-3
+    lines-less-4
+    lines-again-4
     returns
     returns-2
-    returns-3)
+    returns-3
+    returns-4)

@@ -1,9 +1,8 @@
 -- `survey::reading::read_species` meets its contract: its test is the definition's, and the bytes that it reads are those of the command's operands.
 use native.Mathlib.Omega.{arith}
-use mathlib.Core.Path.{_∙_}
 use Rattle.survey.specs.Reading.{speciesFrom}
-use Rattle.survey.proofs.Complement.{read-back}
-use Rattle.survey.proofs.Operands.{cut-short, complete}
+use Rattle.survey.proofs.Complement.{given-back, same-species}
+use Rattle.survey.proofs.Operands.{cut-short, complete-as}
 use Rattle.survey.proofs.reading.read_species.Statement.{statement}
 use Rattle.survey.proofs.reading.read_species.Tie as tie
 
@@ -12,7 +11,7 @@ sub-if1 c = omega arith
 
 returns : tie.Need-returns
 unfolding speciesFrom
-returns c = let start = c .before .before in cut-short (start .args .book .now) (start .args .from) 20 (start .pre) _ (c .if1 .taken)
+returns c = search cut-short
 
 add-t4 : tie.Need-add-t4
 add-t4 c = omega arith
@@ -64,16 +63,7 @@ add-t4-2 c = omega arith
 
 returns-2 : tie.Need-returns-2
 unfolding speciesFrom
-returns-2 c =
-    let start = c .before .before .before .before .before .before .before .before .before .before in
-    -- each constant is read back from its field as the call gave it
-    rw (
-      read-back _ (c .before .before .before .before .signed-four .ok) ∙ c .before .before .before .before .signed-four .ensures,
-      read-back _ (c .before .before .before .signed-four2 .ok) ∙ c .before .before .before .signed-four2 .ensures,
-      read-back _ (c .before .before .signed-four3 .ok) ∙ c .before .before .signed-four3 .ensures,
-      read-back _ (c .before .signed-four4 .ok) ∙ c .before .signed-four4 .ensures,
-    )
-    (complete (start .args .book .now) (start .args .from) 20 (start .pre) _ (omega arith))
+returns-2 c = search (complete-as, same-species, given-back)
 
 pub read-species-spec : {M : Type 1} → statement M
 read-species-spec =

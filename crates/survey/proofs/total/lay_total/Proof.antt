@@ -2,75 +2,83 @@
 use Prim.Native.Nat.{ℕ, _≤_}
 use native.Mathlib.Omega.{arith}
 use mathlib.Core.Path.{_≡_, _∙_, sym, ap, ap₂}
+use mathlib.Core.List.{List}
 use lib.ListN.{length, take}
 use lib.Seq.{length-take-le}
+use borrow.Author.Needs.{needs}
 use Rattle.biomass.specs.Report.{carbon, gives}
 use Rattle.biomass.specs.Project.{projectOf, project}
 use Rattle.biomass.specs.Law.Gives.{never, figure-is}
-use Rattle.survey.specs.Total.{totalled, sumOf, treesOf, sums, totalOf}
-use Rattle.survey.specs.Law.Sums.{project-gives}
-use Rattle.survey.specs.Law.Sheet.{laid-length}
+use Rattle.biomass.specs.declared.answer.Carbon.{Carbon}
+use Rattle.biomass.specs.declared.answer.Refusal.{Refusal}
+use Rattle.biomass.specs.declared.units.BiomassRange.{BiomassRange}
 use Rattle.biomass.specs.declared.units.CarbonRange.{CarbonRange}
-use Rattle.survey.specs.declared.total.Totals.{Totals}
+use Rattle.survey.specs.Survey.{mostLines}
+use Rattle.survey.specs.Sheet.{sheetLength, sheetBytes}
+use Rattle.survey.specs.Writing.{laidAt}
+use Rattle.survey.specs.Total.{totalled, sumOf, treesOf, sums, totalOf}
+use Rattle.survey.specs.Law.Sums.{RowsSmall, project-gives}
+use Rattle.survey.specs.Law.Sheet.{laid-length}
+use Rattle.survey.specs.declared.row.Row.{Row}
 use Rattle.survey.proofs.total.lay_total.Statement.{statement}
 use Rattle.survey.proofs.total.lay_total.Tie as tie
 
--- as many rows as are asked for
-number-is : (p : tie.Start) → length (take (p .args .closed) (p .args .rows)) ≡ p .args .closed
-number-is p = let kept : p .args .closed ≤ length (p .args .rows) = omega arith in length-take-le (p .args .closed) (p .args .rows) kept
+-- so many rows of the table, few and small
+module _ (all : List Row) (closed : ℕ) (small : RowsSmall (take closed all)) (few : closed ≤ mostLines) (of : length all ≡ mostLines) where
+  abbrev rows : List Row
+  rows = take closed all
+
+  -- they are as many as are asked for, and laid into the sheet they leave its length as it was
+  number-is : length rows ≡ closed
+  number-is = length-take-le closed all (omega arith)
+
+  as-long : {x : List ℕ} (sheet : List ℕ) → sheetLength ≤ length sheet → x ≡ laidAt sheet 0 (sheetBytes rows) → length x ≡ length sheet
+  as-long sheet room is = ap length is ∙ laid-length sheet rows (omega (arith, number-is))
+
+  -- what `project` answers of their sums
+  module _ {trees : ℕ} {m : BiomassRange} (answer : Carbon) (trees-are : trees ≡ sumOf treesOf rows) (sums-are : m ≡ sums rows)
+      (promise : carbon answer ≡ project m trees) where
+    figures : carbon answer ≡ gives (projectOf (sums rows) (sumOf treesOf rows))
+    figures = promise ∙ ap₂ project sums-are trees-are ∙ project-gives rows small (omega (arith, number-is))
+
+    -- it does not decline them, and what it gives is the definition's
+    not-refused : {why : Refusal} → answer ≡ Carbon.Refused why → ⊥
+    not-refused is = never (ap carbon (sym is) ∙ figures)
+
+    totals : {figure : CarbonRange} → answer ≡ Carbon.Is figure
+        → totalled (record { rows = closed; trees = trees; carbon = figure }) ≡ totalled (totalOf rows)
+    unfolding totalOf
+    totals is =
+        let n = number-is in
+        let project-is = figure-is (ap carbon (sym is) ∙ figures) in
+        cc
 
 add-requires : tie.Need-add-requires
-add-requires c κs = (c .before .pre .0, c .before .pre .1)
-
--- what `project` answers
-figures-are : (c : tie.After-project) →
-    let a = c .before .before .before .args in
-    let rows = take (a .closed) (a .rows) in
-    carbon (c .project .result) ≡ gives (projectOf (sums rows) (sumOf treesOf rows))
-figures-are c =
-    let start = c .before .before .before in
-    let a = start .args in
-    let sum = c .before .add .ensures in
-    c .project .ensures ∙ ap₂ project (sum .1) (sum .0) ∙ project-gives (take (a .closed) (a .rows)) (start .pre .1) (omega (arith, number-is start))
+add-requires c κs = search needs
 
 project-requires : tie.Need-project-requires
 project-requires c κs = tt
 
 enum-known-carbon : tie.Need-enum-known-carbon
-enum-known-carbon c = c .match .keys1
+enum-known-carbon c = search needs
 
 enum-known-why : tie.Need-enum-known-why
-enum-known-why c = c .match .keys2
+enum-known-why c = search needs
 
 of-figure-requires : tie.Need-of-figure-requires
 of-figure-requires c κs = tt
 
 returns : tie.Need-returns
-returns c = never (ap carbon (sym (c .before .before .why .given .1)) ∙ figures-are (c .before .before .before .before))
+returns c = absurd (search not-refused)
 
 lay-rows-requires : tie.Need-lay-rows-requires
-lay-rows-requires c κs =
-    let start = c .before .before .before .before .before .before .before in
-    (start .pre .0, start .pre .2)
+lay-rows-requires c κs = search needs
 
 same-length : tie.Need-same-length
-same-length c =
-    let start = c .before .before .before .before .before .before .before .before .before .before in
-    let a = start .args in
-    ap length (c .before .before .lay-rows .ensures) ∙ laid-length (a .sheet .now) (take (a .closed) (a .rows)) (omega (arith, number-is start))
-
-totals : {rows n trees N : ℕ} {m c : CarbonRange} → rows ≡ n → trees ≡ N → m ≡ c
-    → _≡_ {A = Totals} (record { rows = rows; trees = trees; carbon = m }) (record { rows = n; trees = N; carbon = c })
-totals e f g = cc
+same-length c = search as-long
 
 returns-2 : tie.Need-returns-2
-unfolding totalOf
-returns-2 c =
-    let known = c .before .before .before .before .before in
-    let project = known .before .before in
-    let start = project .before .before .before in
-    let figures = figure-is (ap carbon (sym (known .carbon .given .1)) ∙ figures-are project) in
-    (ap totalled (totals (sym (number-is start)) (project .before .add .ensures .0) figures), c .before .before .lay-rows .ensures)
+returns-2 c = (search totals, search)
 
 pub lay-total-spec : {M : Type 1} → statement M
 lay-total-spec =

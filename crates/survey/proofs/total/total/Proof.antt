@@ -1,17 +1,19 @@
 -- `survey::total::total` meets its contract: its test is the definition's, and then what playing the book came to decides. Demand 3 holds of what is
 -- answered, whatever it is (Law.Demand3).
-use native.Mathlib.Omega.{arith}
 use Prim.Native.Nat.{ℕ, _≤_, _<_}
 use mathlib.Core.Path.{_≡_, _∙_, refl, sym, ap, subst}
 use mathlib.Core.List.{List}
 use lib.ListN.{length}
+use borrow.Author.Needs.{needs}
 use borrow.Author.Tests.{lt-ltb, le-ltb}
 use Rattle.survey.specs.Refusal.{number}
-use Rattle.survey.specs.Valid.{Valid}
 use Rattle.survey.specs.Playing.{Played, ended, stopped, played, play}
-use Rattle.survey.specs.Sheet.{sheetLength}
-use Rattle.survey.specs.Total.{Answer, refusedAt, answerOf, total, laidBy, sheetAfter}
+use Rattle.survey.specs.Survey.{mostLines}
+use Rattle.survey.specs.Writing.{laidAt}
+use Rattle.survey.specs.Sheet.{sheetLength, sheetBytes, rowsOf}
+use Rattle.survey.specs.Total.{Answer, refusedAt, totalled, totalOf, answerOf, total, laidBy, sheetAfter}
 use Rattle.survey.specs.Law.Playing.{play-valid}
+use Rattle.survey.specs.Law.Sums.{RowsSmall}
 use Rattle.survey.specs.Law.Sheet.{sheet-as-long}
 use Rattle.survey.specs.Law.Total.{total-applied, sheet-applied}
 use Rattle.survey.specs.Law.Demand3.{rows-small, demanded}
@@ -27,76 +29,77 @@ module _ (book sheet : List ℕ) where
   abbrev Promised : Answer → List ℕ → Type 0
   Promised r x = (r ≡ total book sheet) × ((x ≡ sheetAfter book sheet) × Demanded book r)
 
+  -- demand 3 holds of it, whatever it is; and with no room in the sheet
+  promised : {r : Answer} {x : List ℕ} → r ≡ total book sheet → x ≡ sheetAfter book sheet → Promised r x
+  promised answer laid = (answer, (laid, subst (Demanded book) (sym answer) (demanded book sheet)))
+
   no-room : length sheet < sheetLength → Promised (refusedAt 16 0) sheet
   unfolding total sheetAfter
-  no-room h = (rw lt-ltb, (rw lt-ltb, tt))
+  no-room h = promised (rw lt-ltb) (rw lt-ltb)
 
-  room : {p : Played} {r : Answer} {x : List ℕ} → sheetLength ≤ length sheet → p ≡ play book → r ≡ answerOf p → x ≡ laidBy sheet p → Promised r x
-  room {r} {x} enough is answers lays =
-      let answer : r ≡ total book sheet = answers ∙ ap answerOf is ∙ rw (total-applied book sheet, le-ltb) in
-      let laid : x ≡ sheetAfter book sheet = lays ∙ ap (laidBy sheet) is ∙ rw (sheet-applied book sheet, le-ltb) in
-      (answer, (laid, subst (Demanded book) (sym answer) (demanded book sheet)))
+-- what the code's routine says the book is played to, by the outcome of the last command: to a refusal, or to its end
+module _ (book : List ℕ) (p : Code.Played) (promise : played p ≡ play book) where
+  to-refusal : {why : Refusal} → p .outcome ≡ Outcome.Refused why → play book ≡ stopped (number why) (p .at)
+  to-refusal e = sym promise ∙ rw e
 
--- what playing came to, by the outcome of the last command
-to-the-end : (p : Code.Played) → p .outcome ≡ Outcome.Done → ended (p .survey) ≡ played p
-to-the-end p e = rw e
+  to-end : p .outcome ≡ Outcome.Done → play book ≡ ended (p .survey)
+  to-end e = sym promise ∙ rw e
 
-to-a-refusal : (p : Code.Played) (why : Refusal) → p .outcome ≡ Outcome.Refused why → stopped (number why) (p .at) ≡ played p
-to-a-refusal p why e = rw e
+  -- the survey at the end is valid, so that its rows are few and small
+  at-end-few : p .outcome ≡ Outcome.Done → p .survey .closed ≤ mostLines
+  at-end-few e = play-valid book (p .survey) (to-end e) .lines
+
+  at-end-small : p .outcome ≡ Outcome.Done → RowsSmall (rowsOf (p .survey))
+  at-end-small e = rows-small (p .survey) (play-valid book (p .survey) (to-end e))
+
+  -- with room in the sheet
+  module _ (sheet : List ℕ) (enough : sheetLength ≤ length sheet) where
+    answers : {r : Answer} {q : Played} → play book ≡ q → r ≡ answerOf q → r ≡ total book sheet
+    answers is e = e ∙ ap answerOf (sym is) ∙ rw (total-applied book sheet, le-ltb)
+
+    lays : {x : List ℕ} {q : Played} → play book ≡ q → x ≡ laidBy sheet q → x ≡ sheetAfter book sheet
+    lays is e = e ∙ ap (laidBy sheet) (sym is) ∙ rw (sheet-applied book sheet, le-ltb)
+
+    -- a refusal leaves the sheet as it was
+    refusal-answer : {why : Refusal} → p .outcome ≡ Outcome.Refused why → refusedAt (number why) (p .at) ≡ total book sheet
+    refusal-answer e = answers (to-refusal e) refl
+
+    refusal-keeps : {why : Refusal} → p .outcome ≡ Outcome.Refused why → sheet ≡ sheetAfter book sheet
+    refusal-keeps e = lays (to-refusal e) refl
+
+    -- at the end the rows are laid, and the sheet is as long as it was
+    end-answer : {r : Answer} → p .outcome ≡ Outcome.Done → r ≡ totalled (totalOf (rowsOf (p .survey))) → r ≡ total book sheet
+    end-answer e = answers (to-end e)
+
+    end-lays : {x : List ℕ} → p .outcome ≡ Outcome.Done → x ≡ laidAt sheet 0 (sheetBytes (rowsOf (p .survey))) → x ≡ sheetAfter book sheet
+    end-lays e = lays (to-end e)
+
+    end-as-long : {x : List ℕ} → p .outcome ≡ Outcome.Done → x ≡ laidAt sheet 0 (sheetBytes (rowsOf (p .survey))) → length x ≡ length sheet
+    end-as-long e is = ap length is ∙ sheet-as-long (p .survey) (play-valid book (p .survey) (to-end e)) sheet enough
 
 returns : tie.Need-returns
-returns c =
-    let a = c .before .before .before .args in
-    no-room (a .book .now) (a .sheet .now) (omega arith)
+returns c = no-room _ _ (search)
 
 play-requires : tie.Need-play-requires
 play-requires c κs = tt
 
 enum-known-outcome : tie.Need-enum-known-outcome
-enum-known-outcome c = c .match .keys1
+enum-known-outcome c = search needs
 
 enum-told : tie.Need-enum-told
-enum-told c = c .match .keys2
-
--- the survey that an accepted book is played to
-accepted : (c : tie.After-enum-told) →
-    let at = c .before .before in
-    ended (at .play .result .survey) ≡ play (at .before .before .before .before .args .book .now)
-accepted c =
-    let p = c .before .before .play in
-    to-the-end (p .result) (c .enum-told .given .1) ∙ p .ensures
-
--- is valid
-accepted-valid : (c : tie.After-enum-told) → Valid (c .before .before .play .result .survey)
-accepted-valid c = play-valid _ _ (sym (accepted c))
+enum-told c = search needs
 
 lay-total-requires : tie.Need-lay-total-requires
-lay-total-requires c κs =
-    let told = c .before .before .before in
-    let v = accepted-valid told in
-    (v .lines, rows-small _ v, omega arith)
+lay-total-requires c κs = (search at-end-few, search at-end-small, search)
 
 returns-2 : tie.Need-returns-2
-returns-2 c =
-    let at = c .before .before .before in
-    let a = at .before .before .before .before .args in
-    let p = at .play .result in
-    room (a .book .now) (a .sheet .now) (omega arith) (to-a-refusal p _ (c .before .outcome .given .1) ∙ at .play .ensures) refl refl
+returns-2 c = promised _ _ (search refusal-answer) (search refusal-keeps)
 
 same-length : tie.Need-same-length
-same-length c =
-    let told = c .before .before .before .before .before .before in
-    let at = told .before .before in
-    ap length (c .before .before .lay-total .ensures .1)
-    ∙ sheet-as-long (at .play .result .survey) (accepted-valid told) (at .before .before .before .before .args .sheet .now) (omega arith)
+same-length c = search end-as-long
 
 returns-3 : tie.Need-returns-3
-returns-3 c =
-    let told = c .before .before .before .before .before .before in
-    let at = told .before .before in
-    let a = at .before .before .before .before .args in
-    let lays = c .before .before .lay-total .ensures in
-    room (a .book .now) (a .sheet .now) (omega arith) (accepted told) (lays .0) (lays .1)
+returns-3 c = promised _ _ (search end-answer) (search end-lays)
 
 pub total-spec : {M : Type 1} → statement M
 total-spec =

@@ -1,0 +1,24 @@
+-- `survey::line::tariff_of` meets its contract: the four constants that are handed on are read back as they are.
+use Prim.Native.Nat.{ℕ, _^_, _<_}
+use mathlib.Core.Path.{_≡_}
+use lib.Signed.{mag}
+use Rattle.biomass.specs.Report.{Report}
+use Rattle.biomass.specs.Tariff.{singleTariff}
+use Rattle.survey.specs.Line.{tariffOf}
+use Rattle.survey.specs.declared.command.Species.{Species}
+use Rattle.survey.proofs.Complement.{word, read-back}
+use Rattle.survey.proofs.line.tariff_of.Statement.{statement}
+use Rattle.survey.proofs.line.tariff_of.Tie as tie
+
+handed : {r : Report ℕ} (s : Species) (cm tenths : ℕ) → mag (s .c1) < 2 ^ 31 → mag (s .c2) < 2 ^ 31 → mag (s .c3) < 2 ^ 31 → mag (s .c4) < 2 ^ 31
+    → r ≡ singleTariff (word (s .c1)) (word (s .c2)) (word (s .c3)) (word (s .c4)) cm tenths → r ≡ tariffOf s cm tenths
+handed s cm tenths f1 f2 f3 f4 e = simp (read-back (s .c1) f1, read-back (s .c2) f2, read-back (s .c3) f3, read-back (s .c4) f4) at e
+
+single-tariff-requires : tie.Need-single-tariff-requires
+single-tariff-requires c κs = tt
+
+returns : tie.Need-returns
+returns c = search handed
+
+pub tariff-of-spec : {M : Type 1} → statement M
+tariff-of-spec = tie.close (tie.spec single-tariff-requires returns)

@@ -1,0 +1,108 @@
+-- What a command changes. The code decides it on the few values of a survey that the command looks at, and then stores the change in its place: applying a
+-- command is deciding it and changing the survey (Law.Change: decides). A private part of applying; document 01 does not name it.
+use Prim.Native.Nat.{ℕ, _<_}
+use mathlib.Core.Bool.{Bool}
+use mathlib.Core.List.{List}
+use lib.Dec.{leb, ltb}
+use Rattle.biomass.specs.Report.{Report, refused, gives, unless, _then_}
+use Rattle.survey.specs.Refusal.{number, when}
+use Rattle.survey.specs.Line.{begun, factorAt}
+use Rattle.survey.specs.Survey.{mostLines, withSpecies, withFactor, withOpened, withRow, withEnd, declaredAs, declaring, giving, opening}
+use Rattle.survey.specs.Apply.{measured, height, lineRow}
+use Rattle.survey.specs.declared.command.Species.{Species}
+use Rattle.survey.specs.declared.command.Command.{Command}
+use Rattle.survey.specs.declared.line.Line.{Line}
+use Rattle.survey.specs.declared.survey.Survey.{Survey}
+use Rattle.survey.specs.declared.change.Change.{Change}
+use Rattle.survey.specs.declared.change.Named.{Named}
+use Rattle.survey.specs.declared.change.Seen.{Seen}
+
+-- what a change makes of a survey
+abbrev pub changed : Change → Survey → Report Survey
+changed (Change.Species id species) s = gives (withSpecies s id species)
+changed (Change.Factor cm factor) s = gives (withFactor s cm factor)
+changed (Change.Line l) s = gives (withOpened s l)
+changed (Change.Row r) s = gives (withRow s r)
+changed Change.End s = gives (withEnd s)
+changed (Change.Refused why) s = refused (number why)
+
+-- it has a place in the survey's tables
+abbrev pub HasPlace : Change → Survey → Type 0
+HasPlace (Change.Species id species) s = id < 16
+HasPlace (Change.Factor cm factor) s = cm < 101
+HasPlace (Change.Line l) s = Unit
+HasPlace (Change.Row r) s = s .closed < mostLines
+HasPlace Change.End s = Unit
+HasPlace (Change.Refused why) s = Unit
+
+-- what the code answers
+abbrev pub told : Change → Report Change
+told (Change.Species id species) = gives (Change.Species id species)
+told (Change.Factor cm factor) = gives (Change.Factor cm factor)
+told (Change.Line l) = gives (Change.Line l)
+told (Change.Row r) = gives (Change.Row r)
+told Change.End = gives Change.End
+told (Change.Refused why) = refused (number why)
+
+-- the stratum and the species that a command names; 0 where it names none
+abbrev pub named : Command → Named
+named (Command.Species id species) = record { stratum = 0; species = id }
+named (Command.Factor cm factor) = record { stratum = 0; species = 0 }
+named (Command.Open stratum species p q) = record { stratum = stratum; species = species }
+named (Command.Measured class count) = record { stratum = 0; species = 0 }
+named (Command.Height cm tenths) = record { stratum = 0; species = 0 }
+named Command.Close = record { stratum = 0; species = 0 }
+named Command.End = record { stratum = 0; species = 0 }
+
+-- what a command sees of a survey, with what stands in the tables for the stratum and the species that it names
+abbrev pub seenOf : Species → Bool → Survey → Seen
+seenOf there before s = record { there = there; before = before; active = s .active; closed = s .closed }
+
+-- What each command changes of a survey that has not ended, by what it sees of it, the line and the factors: an opening, a command of the open line with what
+-- becomes of the line, a closing, the end
+abbrev pub opens : ℕ → ℕ → ℕ → ℕ → Seen → Report Change
+opens stratum id p q v =
+    opening p q (v .active) (declaredAs id (v .there)) (v .before) (v .closed)
+    (gives (Change.Line (begun stratum id (v .there) p q)))
+
+abbrev pub notes : Bool → Report Line → Report Change
+notes active after =
+    unless active 10
+    (after then λ l.
+    gives (Change.Line l))
+
+abbrev pub closes : Seen → Line → List ℕ → Report Change
+closes v l factors =
+    unless (v .active) 10
+    (lineRow factors l then λ r.
+    when (leb mostLines (v .closed)) 11
+    (gives (Change.Row r)))
+
+abbrev pub ends : Bool → Report Change
+ends active =
+    when active 9
+    (gives Change.End)
+
+-- any command
+abbrev pub decided : Command → Seen → Line → List ℕ → Report Change
+decided (Command.Species id species) v l factors = declaring id species (declaredAs id (v .there)) (gives (Change.Species id species))
+decided (Command.Factor cm factor) v l factors = giving cm factor (ltb 0 (factorAt factors cm)) (gives (Change.Factor cm factor))
+decided (Command.Open stratum species p q) v l factors = opens stratum species p q v
+decided (Command.Measured class count) v l factors = notes (v .active) (measured class count l)
+decided (Command.Height cm tenths) v l factors = notes (v .active) (height cm tenths l)
+decided Command.Close v l factors = closes v l factors
+decided Command.End v l factors = ends (v .active)
+
+-- What a command makes of the open line, where it is one of the line's own; the code leaves the rest of the survey aside for these (Noting)
+pub data Own : Type 0 where
+  own : Report Line → Own
+  notOwn : Own
+
+abbrev pub ownOf : Command → Line → Own
+ownOf (Command.Species id species) l = notOwn
+ownOf (Command.Factor cm factor) l = notOwn
+ownOf (Command.Open stratum species p q) l = notOwn
+ownOf (Command.Measured class count) l = own (measured class count l)
+ownOf (Command.Height cm tenths) l = own (height cm tenths l)
+ownOf Command.Close l = notOwn
+ownOf Command.End l = notOwn
