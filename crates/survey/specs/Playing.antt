@@ -1,7 +1,6 @@
 -- "Totalling a book": its commands are applied to a fresh survey, one after the other, to the end of the book or to "the first refusal met, with the
 -- place of its command".
 use Prim.Native.Nat.{ℕ, zero, suc, _+_}
-use mathlib.Core.Path.{_≡_}
 use mathlib.Core.Bool.{cond}
 use mathlib.Core.List.{List, [], _∷_}
 use lib.ListN.{length}
@@ -23,16 +22,17 @@ pub data Played : Type 0 where
   ended : Survey → Played
   stopped : ℕ → ℕ → Played
 
--- what the code answers; and what its halt comes to, whatever the survey then
-abbrev pub playedAs : Survey → ℕ → Outcome → Played
-playedAs s at Outcome.Done = ended s
-playedAs s at (Outcome.Refused why) = stopped (number why) at
-
+-- what the code answers
 abbrev pub played : Code.Played → Played
-played p = playedAs (p .survey) (p .at) (p .outcome)
+played p = by-outcome (p .outcome)
+  where
+    by-outcome : Outcome → Played
+    by-outcome Outcome.Done = ended (p .survey)
+    by-outcome (Outcome.Refused why) = stopped (number why) (p .at)
 
-abbrev pub Halts : Halt → (Survey → Played) → Type 0
-Halts r comes-to = (s : Survey) → playedAs s (r .at) (r .outcome) ≡ comes-to s
+-- and what a halt of the code comes to with a survey
+abbrev pub comesTo : Halt → Survey → Played
+comesTo h s = played (record { survey = s; at = h .at; outcome = h .outcome })
 
 -- The rules by which a command is applied to a survey: document 01's bare text (AsWritten), by which a book is totalled, or `apply`, which the code does
 -- and by which each book comes to the same (Law.Playing: play-as-written)

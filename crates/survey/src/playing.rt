@@ -16,7 +16,7 @@ use super::survey::Survey;
 ghost use mathlib.Core.Path.{_≡_};
 ghost use Rattle.survey.specs.Refusal.{number};
 ghost use Rattle.survey.specs.Apply.{noted};
-ghost use Rattle.survey.specs.Playing.{stopped, played, Halts, afterEnd, play};
+ghost use Rattle.survey.specs.Playing.{stopped, played, comesTo, afterEnd, play};
 ghost use Rattle.survey.specs.Noting.{noting, notedTo, note};
 
 // How far a book is played: the survey, the place after the last command, and what became of that command. Where a book
@@ -42,7 +42,7 @@ struct Halt {
 
 // A refusal and its place.
 fn stop(at: usize, why: Refusal) -> Halt
-    ensures { λ r. ⌜ Halts r (λ s. stopped (number why) at) ⌝ }
+    ensures { λ r. ⌜ comesTo r ≡ (λ s. stopped (number why) at) ⌝ }
 {
     Halt {
         at,
@@ -52,7 +52,7 @@ fn stop(at: usize, why: Refusal) -> Halt
 
 // After 07, at the place behind it.
 fn end(book: &[u8], at: usize) -> Halt
-    ensures { λ r. ⌜ Halts r (afterEnd (now (book .entry)) at) ⌝ }
+    ensures { λ r. ⌜ comesTo r ≡ afterEnd (now (book .entry)) at ⌝ }
 {
     if at < book.len() {
         return stop(at, Refusal::Ended);

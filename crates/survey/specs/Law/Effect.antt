@@ -1,5 +1,5 @@
 -- What a command that is taken changes, of any survey, valid or not: a species, a factor, the line or the rows, each with what the checks say of it that
--- the command passed. Only `effects` goes by command: what holds of every command that is taken is shown of these four (Law.Once, Law.Valid, Law.Witness,
+-- the command passed. Only `effect` goes by command: what holds of every command that is taken is shown of these four (Law.Once, Law.Valid, Law.Witness,
 -- Law.Closings, Law.Rows).
 use Prim.Native.Nat.{ℕ, _+_, _≤_, _<_, zero-le}
 use native.Mathlib.Omega.{arith}
@@ -165,18 +165,15 @@ noted {c} s after h =
     unless-such such (s .active) 10 _ (λ is-open.
     then-such such after _ (λ l gave. gives-such such (withLine s l) (h l gave))))
 
-effects : (c : Command) (s : Survey) → Gives (λ t. Effect c s t (closing c s)) (apply c s)
+-- every command that is taken changes one of the four
+pub effect : (c : Command) (s : Survey) → Gives (λ t. Effect c s t (closing c s)) (apply c s)
 unfolding declare giveFactor openLine applyMeasured measured applyHeight height finish
-effects (Command.Species id x) s = search checked depth 12
-effects (Command.Factor cm x) s = search checked depth 12
-effects (Command.Open stratum id p q) s = let byte : Fits (Command.Open stratum id p q) → stratum < 256 = λ fits. fits .0 in search checked depth 12
-effects (Command.Measured class count) s = noted s (measured class count (s .line)) (search checked depth 12)
-effects (Command.Height cm tenths) s = noted s (height cm tenths (s .line)) (search checked depth 12)
-effects Command.Close s = λ t e.
+effect (Command.Species id x) s = search checked depth 12
+effect (Command.Factor cm x) s = search checked depth 12
+effect (Command.Open stratum id p q) s = let byte : Fits (Command.Open stratum id p q) → stratum < 256 = λ fits. fits .0 in search checked depth 12
+effect (Command.Measured class count) s = noted s (measured class count (s .line)) (search checked depth 12)
+effect (Command.Height cm tenths) s = noted s (height cm tenths (s .line)) (search checked depth 12)
+effect Command.Close s = λ t e.
     let g = closes s t e in
     subst (λ (x : Survey). Effect Command.Close s x (s ∷ [])) (sym (g .is)) (a-row (g .row) (e ∙ ap gives (g .is)))
-effects Command.End s = search checked depth 12
-
--- every command that is taken changes one of the four
-pub effect : (c : Command) (s t : Survey) → apply c s ≡ gives t → Effect c s t (closing c s)
-effect = effects
+effect Command.End s = search checked depth 12

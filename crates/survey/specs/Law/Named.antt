@@ -53,18 +53,15 @@ only-named c s n v e = text-named c s n (sym (as-written c s v) ∙ e)
 abbrev NamedOrBesides : Command → ℕ → Type 0
 NamedOrBesides c = In (6 ∷ 11 ∷ numbersOf c)
 
-any-named : (c : Command) (s : Survey) → Declines (NamedOrBesides c) (apply c s)
+pub never-other : (c : Command) (s : Survey) → Declines (NamedOrBesides c) (apply c s)
 unfolding declare giveFactor openLine applyMeasured measured applyHeight height applyClose lineRow worked kept finish
-any-named (Command.Species id species) s = search refusals depth 20
-any-named (Command.Factor cm factor) s = search refusals depth 20
-any-named (Command.Open stratum species p q) s = search refusals depth 20
-any-named (Command.Measured class count) s = search refusals depth 20
-any-named (Command.Height cm tenths) s = search refusals depth 20
-any-named Command.Close s = search refusals depth 24 fits 6000
-any-named Command.End s = search refusals depth 20
-
-pub never-other : (c : Command) (s : Survey) (n : ℕ) → apply c s ≡ refused n → isIn n (6 ∷ 11 ∷ numbersOf c) ≡ true
-never-other = any-named
+never-other (Command.Species id species) s = search refusals depth 20
+never-other (Command.Factor cm factor) s = search refusals depth 20
+never-other (Command.Open stratum species p q) s = search refusals depth 20
+never-other (Command.Measured class count) s = search refusals depth 20
+never-other (Command.Height cm tenths) s = search refusals depth 20
+never-other Command.Close s = search refusals depth 24 fits 6000
+never-other Command.End s = search refusals depth 20
 
 -- what each of a list passes, a number in the list passes
 abbrev each : (ℕ → Bool) → List ℕ → Bool

@@ -12,7 +12,7 @@ use Rattle.biomass.specs.Report.{gives}
 use Rattle.survey.specs.Reading.{read, reading}
 use Rattle.survey.specs.Survey.{fresh, withLine, withEnd, opened}
 use Rattle.survey.specs.Change.{changed}
-use Rattle.survey.specs.Playing.{playFrom, play}
+use Rattle.survey.specs.Playing.{Played, playFrom, play}
 use Rattle.survey.specs.Noting.{noting}
 use Rattle.survey.specs.Law.Change.{Made, decides}
 use Rattle.survey.specs.Law.Playing.{plays-refused, plays-after-end, On, plays-taken, plays-declined, plays-unread, note-refused, plays-noted}
@@ -99,6 +99,10 @@ module _ (d : tie.After-decide Inv-loop μ-loop Inv-lines μ-lines) {change : Ch
   again : t .ended ≡ survey-in (in-line d) .ended
       → (next-of d ≤ length (book-in (in-line d))) × (t .ended ≡ false) × (playFrom (book-in (in-line d)) (next-of d) t ≡ play (book-in (in-line d)))
   again same = (moved .inside, same ∙ not-ended (in-line d), on)
+
+-- what a halt comes to with a survey
+halted : {f g : Survey → Played} → f ≡ g → (s : Survey) → f s ≡ g s
+halted e s = ap (λ (f : Survey → Played). f s) e
 
 new-requires : tie.Need-new-requires Inv-loop μ-loop Inv-lines μ-lines
 new-requires c κs = tt
@@ -245,7 +249,7 @@ returns c =
     let at = turn .before in
     let is = sym (known .before .before .note .ensures) ∙ ap noting (known .why .given .1) in
     let refuses = note-refused (book-in at) (at .loop .at) (survey-in at) (at .loop .line) _ (not-ended at) (turn .loop-test .taken) is in
-    c .stop .ensures (survey-in at) ∙ sym (plays-refused (book-in at) (at .loop .at) (withLine (survey-in at) (at .loop .line)) _ (not-ended at) refuses) ∙ at .loop .inv .2
+    halted (c .stop .ensures) (survey-in at) ∙ sym (plays-refused (book-in at) (at .loop .at) (withLine (survey-in at) (at .loop .line)) _ (not-ended at) refuses) ∙ at .loop .inv .2
 
 returns-2 : tie.Need-returns-2 Inv-loop μ-loop Inv-lines μ-lines
 returns-2 c =
@@ -253,13 +257,13 @@ returns-2 c =
     let r = known .before .before in
     let at = r .before .before in
     let is = sym (r .read .ensures .0) ∙ ap reading (known .why2 .given .1) in
-    c .stop2 .ensures (survey-at at) ∙ sym (plays-unread (book-in at) (at .loop .at) (survey-at at) _ (not-ended at) is) ∙ at .loop .inv .2
+    halted (c .stop2 .ensures) (survey-at at) ∙ sym (plays-unread (book-in at) (at .loop .at) (survey-at at) _ (not-ended at) is) ∙ at .loop .inv .2
 
 returns-3 : tie.Need-returns-3 Inv-loop μ-loop Inv-lines μ-lines
 returns-3 c =
     let d = c .before .before .before in
     let t = withEnd (survey-at (in-line d)) in
-    c .end .ensures t ∙ sym (plays-after-end (book-in (in-line d)) _ t refl) ∙ on d (c .before .enum-told2 .given .1) refl
+    halted (c .end .ensures) t ∙ sym (plays-after-end (book-in (in-line d)) _ t refl) ∙ on d (c .before .enum-told2 .given .1) refl
 
 returns-4 : tie.Need-returns-4 Inv-loop μ-loop Inv-lines μ-lines
 returns-4 c =
@@ -267,7 +271,7 @@ returns-4 c =
     let d = known .before .before in
     let at = in-line d in
     let is = made d .is ∙ ap (λ (k : Change). changed k (survey-at at)) (known .why3 .given .1) in
-    c .stop3 .ensures (survey-at at) ∙ sym (plays-declined (book-in at) (at .loop .at) (survey-at at) _ _ (read-so d) _ (not-ended at) is) ∙ at .loop .inv .2
+    halted (c .stop3 .ensures) (survey-at at) ∙ sym (plays-declined (book-in at) (at .loop .at) (survey-at at) _ _ (read-so d) _ (not-ended at) is) ∙ at .loop .inv .2
 
 pub play-spec : {M : Type 1} → statement M
 play-spec =
