@@ -1,7 +1,7 @@
 -- What a command changes. The code decides it on the few values of a survey that the command looks at, and then stores the change in its place: applying a
 -- command is deciding it and changing the survey (Law.Change: decides). A private part of applying; document 01 does not name it.
 use Prim.Native.Nat.{ℕ, _<_}
-use mathlib.Core.Bool.{Bool}
+use mathlib.Core.Bool.{Bool, true, false}
 use mathlib.Core.List.{List}
 use lib.Dec.{leb, ltb}
 use Rattle.biomass.specs.Report.{Report, refused, gives, unless, _then_}
@@ -44,15 +44,15 @@ told (Change.Row r) = gives (Change.Row r)
 told Change.End = gives Change.End
 told (Change.Refused why) = refused (number why)
 
--- the stratum and the species that a command names; 0 where it names none
+-- the stratum and the species that a command names, 0 where it names none; and whether it names both, and so a line
 abbrev pub named : Command → Named
-named (Command.Species id species) = record { stratum = 0; species = id }
-named (Command.Factor cm factor) = record { stratum = 0; species = 0 }
-named (Command.Open stratum species p q) = record { stratum = stratum; species = species }
-named (Command.Measured class count) = record { stratum = 0; species = 0 }
-named (Command.Height cm tenths) = record { stratum = 0; species = 0 }
-named Command.Close = record { stratum = 0; species = 0 }
-named Command.End = record { stratum = 0; species = 0 }
+named (Command.Species id species) = record { line = false; stratum = 0; species = id }
+named (Command.Factor cm factor) = record { line = false; stratum = 0; species = 0 }
+named (Command.Open stratum species p q) = record { line = true; stratum = stratum; species = species }
+named (Command.Measured class count) = record { line = false; stratum = 0; species = 0 }
+named (Command.Height cm tenths) = record { line = false; stratum = 0; species = 0 }
+named Command.Close = record { line = false; stratum = 0; species = 0 }
+named Command.End = record { line = false; stratum = 0; species = 0 }
 
 -- what a command sees of a survey, with what stands in the tables for the stratum and the species that it names
 abbrev pub seenOf : Species → Bool → Survey → Seen

@@ -36,6 +36,8 @@ pub(crate) enum Change {
 
 // The stratum and the species that a command names; 0 where it names none.
 pub(crate) struct Named {
+    // Whether it names both, and so a line.
+    pub(crate) line: bool,
     pub(crate) stratum: u8,
     pub(crate) species: u8,
 }
@@ -44,7 +46,7 @@ pub(crate) struct Named {
 pub(crate) struct Seen {
     // What stands at the place of the species that it names.
     pub(crate) there: Species,
-    // Whether a line of the stratum and species that it names was closed before.
+    // Whether the line that it names was closed before; false where it names none.
     pub(crate) before: bool,
     // Whether a line is open.
     pub(crate) active: bool,
@@ -58,6 +60,7 @@ pub(crate) fn names(command: Command) -> Named
 {
     match command {
         Command::Species(id, _) => Named {
+            line: false,
             stratum: 0,
             species: id,
         },
@@ -66,8 +69,13 @@ pub(crate) fn names(command: Command) -> Named
             species,
             p: _,
             q: _,
-        } => Named { stratum, species },
+        } => Named {
+            line: true,
+            stratum,
+            species,
+        },
         _ => Named {
+            line: false,
             stratum: 0,
             species: 0,
         },

@@ -114,7 +114,11 @@ pub(crate) fn play(book: &[u8]) -> Played
                 let named = names(command);
                 let i = (named.species % 16) as usize;
                 let there = survey.species[i];
-                let before = has_row(survey.rows, survey.closed, named);
+                let before = if named.line {
+                    has_row(survey.rows, survey.closed, named)
+                } else {
+                    false
+                };
                 let seen = Seen {
                     there,
                     before,

@@ -130,7 +130,11 @@ impl Survey {
         // An id above 15 has the place of another, and no command that names it is taken.
         let i = (named.species % 16) as usize;
         let there = self.species[i];
-        let before = has_row(self.rows, self.closed, named);
+        let before = if named.line {
+            has_row(self.rows, self.closed, named)
+        } else {
+            false
+        };
         let seen = Seen {
             there,
             before,

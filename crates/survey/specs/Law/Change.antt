@@ -3,7 +3,7 @@
 use Prim.Native.Nat.{ℕ, _%_, _<_, suc-le-suc}
 use native.Mathlib.Nat.{mod-eq-of-lt}
 use native.Mathlib.Omega.{arith}
-use mathlib.Core.Path.{_≡_, _∙_, refl, sym, ap}
+use mathlib.Core.Path.{_≡_, _∙_, refl, sym, ap, subst}
 use mathlib.Core.Bool.{Bool, true, false, cond}
 use mathlib.Core.List.{List}
 use lib.Dec.{ltb}
@@ -15,7 +15,7 @@ use Rattle.survey.specs.Refusal.{when}
 use Rattle.survey.specs.Line.{begun}
 use Rattle.survey.specs.Survey.{speciesAt, withState, withLine, speciesInRange, declaredAs, declaring, declare, giveFactor, opened, opening, openLine, finish}
 use Rattle.survey.specs.Apply.{measured, height, onLine, applyMeasured, applyHeight, kept, applyClose, apply}
-use Rattle.survey.specs.Change.{changed, HasPlace, told, named, seenOf, notes, decided, own, notOwn, ownOf}
+use Rattle.survey.specs.Change.{changed, HasPlace, told, named, seenOf, opens, notes, decided, own, notOwn, ownOf}
 use Rattle.survey.specs.Law.Checks.{Gives, passed, when-then, unless-then, then-then, species-in-range}
 use Rattle.survey.specs.declared.command.Species.{Species}
 use Rattle.survey.specs.declared.command.Command.{Command}
@@ -82,17 +82,19 @@ opening-seen stratum id p q is-open before closed x y same = by-place (inside 0 
         (same (suc-le-suc (inside-true 0 id 15 e .most)))
     by-place false e = refl
 
-seen-enough : (c : Command) (s : Survey) (there : Species) (before : Bool) (l : Line) (factors : List ℕ) → (named c .species < 16 → speciesAt s (named c .species) ≡ there)
-    → decided c (seenOf (speciesAt s (named c .species)) before s) l factors ≡ decided c (seenOf there before s) l factors
-seen-enough (Command.Species id species) s there before l factors same =
-    ap (λ (given : Bool). declaring id species given (gives (Change.Species id species))) (declared-seen id (speciesAt s id) there same)
-seen-enough (Command.Factor cm factor) s there before l factors same = refl
-seen-enough (Command.Open stratum id p q) s there before l factors same =
+seen-enough : (c : Command) (s : Survey) (there : Species) (before given : Bool) (l : Line) (factors : List ℕ)
+    → (named c .species < 16 → speciesAt s (named c .species) ≡ there) → (named c .line ≡ true → before ≡ given)
+    → decided c (seenOf (speciesAt s (named c .species)) before s) l factors ≡ decided c (seenOf there given s) l factors
+seen-enough (Command.Species id species) s there before given l factors same first =
+    ap (λ (is : Bool). declaring id species is (gives (Change.Species id species))) (declared-seen id (speciesAt s id) there same)
+seen-enough (Command.Factor cm factor) s there before given l factors same first = refl
+seen-enough (Command.Open stratum id p q) s there before given l factors same first =
     opening-seen stratum id p q (s .active) before (s .closed) (speciesAt s id) there same
-seen-enough (Command.Measured class count) s there before l factors same = refl
-seen-enough (Command.Height cm tenths) s there before l factors same = refl
-seen-enough Command.Close s there before l factors same = refl
-seen-enough Command.End s there before l factors same = refl
+    ∙ ap (λ (b : Bool). opens stratum id p q (seenOf there b s)) (first refl)
+seen-enough (Command.Measured class count) s there before given l factors same first = refl
+seen-enough (Command.Height cm tenths) s there before given l factors same first = refl
+seen-enough Command.Close s there before given l factors same first = refl
+seen-enough Command.End s there before given l factors same first = refl
 
 -- ---- a change has its place
 
@@ -141,20 +143,22 @@ told-makes (Change.Refused why) s = refl
 in-place : (s : Survey) (id : ℕ) → id < 16 → speciesAt s id ≡ speciesAt s (id % 16)
 in-place s id below = ap (speciesAt s) (sym (mod-eq-of-lt below))
 
-pub decides : (c : Command) (s : Survey) (name : Named) (before : Bool) (change : Change) → s .ended ≡ false → name ≡ named c
-    → before ≡ opened (name .stratum) (name .species) s → told change ≡ decided c (seenOf (speciesAt s (name .species % 16)) before s) (s .line) (s .factors)
-    → Made c s change
+-- whether the line that is named was closed before, where one is named
+abbrev Before : Named → Bool → Survey → Type 0
+Before name before s = name .line ≡ true → opened (name .stratum) (name .species) s ≡ before
+
+pub decides : (c : Command) (s : Survey) (name : Named) (before : Bool) (change : Change) → s .ended ≡ false → name ≡ named c → Before name before s
+    → told change ≡ decided c (seenOf (speciesAt s (name .species % 16)) before s) (s .line) (s .factors) → Made c s change
 decides c s name before change not-ended is-named is-before e =
     let there : Named → Species = λ n. speciesAt s (n .species % 16) in
-    let seen = is-before ∙ ap (λ (n : Named). opened (n .stratum) (n .species) s) is-named in
+    let seen = subst (λ (n : Named). Before n before s) is-named is-before in
     let is-told = e ∙ ap (λ (n : Named). decided c (seenOf (there n) before s) (s .line) (s .factors)) is-named in
     record {
       place = told-place change s e (has-place c s (there name) before (s .line) (s .factors));
       is =
           made s c ∙ ap (λ (b : Bool). when b 5 (after s c)) not-ended
-          ∙ ap (λ (b : Bool). decided c (seenOf (speciesAt s (named c .species)) b s) (s .line) (s .factors) then λ k. changed k s) (sym seen)
           ∙ ap (λ (r : Report Change). r then λ k. changed k s)
-          (seen-enough c s (there (named c)) before (s .line) (s .factors) (in-place s (named c .species)) ∙ sym is-told)
+          (seen-enough c s (there (named c)) _ before (s .line) (s .factors) (in-place s (named c .species)) seen ∙ sym is-told)
           ∙ told-makes change s;
     }
 

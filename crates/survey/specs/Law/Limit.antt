@@ -9,9 +9,9 @@ use Rattle.biomass.specs.Report.{refused}
 use Rattle.biomass.specs.Limits.{mostMeasured, mostHeights}
 use Rattle.biomass.specs.Law.Declines.{Declines}
 use Rattle.survey.specs.Survey.{mostLines, declare, giveFactor, openLine, finish}
-use Rattle.survey.specs.Apply.{measured, height, worked, lineRow, applyMeasured, applyHeight, kept, applyClose, apply}
+use Rattle.survey.specs.Apply.{measured, height, applyMeasured, applyHeight, kept, applyClose, apply}
 use Rattle.survey.specs.Valid.{Valid}
-use Rattle.survey.specs.Law.Named.{refusals, only-named}
+use Rattle.survey.specs.Law.Named.{refusals, line-row-declines, only-named}
 use Rattle.survey.specs.declared.command.Command.{Command}
 use Rattle.survey.specs.declared.survey.Survey.{Survey}
 
@@ -38,13 +38,13 @@ other X n e = record { holds = λ is. absurd (eqb-false n 11 e is) }
 ruleset limits = (refusals, other, at-limit, leb-true, leb-false)
 
 eleven-told : (c : Command) (s : Survey) → Declines (Eleven (AtLimit c s)) (apply c s)
-unfolding declare giveFactor openLine applyMeasured measured applyHeight height applyClose lineRow worked kept finish
+unfolding declare giveFactor openLine applyMeasured measured applyHeight height applyClose kept finish
 eleven-told (Command.Species id species) s = search limits depth 20
 eleven-told (Command.Factor cm factor) s = search limits depth 20
 eleven-told (Command.Open stratum species p q) s = search limits depth 20
 eleven-told (Command.Measured class count) s = search limits depth 20
 eleven-told (Command.Height cm tenths) s = search limits depth 20
-eleven-told Command.Close s = search limits depth 24 fits 6000
+eleven-told Command.Close s = search (limits, line-row-declines) depth 20
 eleven-told Command.End s = search limits depth 20
 
 pub limit-told : (c : Command) (s : Survey) → apply c s ≡ refused 11 → AtLimit c s

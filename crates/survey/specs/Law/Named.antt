@@ -18,6 +18,7 @@ use Rattle.survey.specs.Valid.{Valid}
 use Rattle.survey.specs.Law.Checks.{declined}
 use Rattle.survey.specs.Law.AsWritten.{as-written}
 use Rattle.survey.specs.declared.command.Command.{Command}
+use Rattle.survey.specs.declared.line.Line.{Line}
 use Rattle.survey.specs.declared.survey.Survey.{Survey}
 
 abbrev In : List ℕ → ℕ → Type 0
@@ -27,9 +28,14 @@ In l n = isIn n l ≡ true
 abbrev Named : Command → ℕ → Type 0
 Named c = In (numbersOf c)
 
--- the checks of a command, and the figures that it is worked from, one by one
-pub ruleset refusals =
-    (declined, six-declines, six-or-thirteen-declines, single-tariff-declines, line-tariff-declines, mean-declines, trees-declines, row-declines)
+-- the checks of a command, one by one, with the figure that a height tree is worked from
+pub ruleset refusals = (declined, six-or-thirteen-declines, single-tariff-declines)
+
+-- and those of a line's row, with the figures that it is worked from, whatever is to hold of the numbers
+pub line-row-declines : (such : ℕ → Type 0) (factors : List ℕ) (l : Line) → such 6 → such 12 → such 14 → such 15 → Declines such (lineRow factors l)
+unfolding lineRow worked
+line-row-declines such factors l six twelve fourteen fifteen =
+    search (declined, six-declines, line-tariff-declines, mean-declines, trees-declines, row-declines) depth 20
 
 -- ---- a valid survey
 
@@ -54,13 +60,13 @@ abbrev NamedOrBesides : Command → ℕ → Type 0
 NamedOrBesides c = In (6 ∷ 11 ∷ numbersOf c)
 
 pub never-other : (c : Command) (s : Survey) → Declines (NamedOrBesides c) (apply c s)
-unfolding declare giveFactor openLine applyMeasured measured applyHeight height applyClose lineRow worked kept finish
+unfolding declare giveFactor openLine applyMeasured measured applyHeight height applyClose kept finish
 never-other (Command.Species id species) s = search refusals depth 20
 never-other (Command.Factor cm factor) s = search refusals depth 20
 never-other (Command.Open stratum species p q) s = search refusals depth 20
 never-other (Command.Measured class count) s = search refusals depth 20
 never-other (Command.Height cm tenths) s = search refusals depth 20
-never-other Command.Close s = search refusals depth 24 fits 6000
+never-other Command.Close s = search (refusals, line-row-declines) depth 20
 never-other Command.End s = search refusals depth 20
 
 -- what each of a list passes, a number in the list passes

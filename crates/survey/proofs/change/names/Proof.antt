@@ -1,5 +1,6 @@
 -- `survey::change::names` meets its contract, by cases on the command.
 use mathlib.Core.Path.{_≡_, refl}
+use mathlib.Core.Bool.{false}
 use mathlib.Core.List.{[], _∷_}
 use types.Run.{OneOf, miss}
 use denote.Enum.Declared.{tagOf}
@@ -23,7 +24,7 @@ returns-2 : tie.Need-returns-2
 returns-2 c = cc
 
 -- the commands of the other tags name nothing
-others : (k : Command) → OneOf (1 ∷ 3 ∷ 4 ∷ 5 ∷ 6 ∷ []) (tagOf the-type k) → record { stratum = 0; species = 0 } ≡ named k
+others : (k : Command) → OneOf (1 ∷ 3 ∷ 4 ∷ 5 ∷ 6 ∷ []) (tagOf the-type k) → record { line = false; stratum = 0; species = 0 } ≡ named k
 others (Command.Species id species) one = absurd (miss (1 ∷ 3 ∷ 4 ∷ 5 ∷ 6 ∷ []) 0 tt one)
 others (Command.Factor cm factor) one = refl
 others (Command.Open stratum species p q) one = absurd (miss (1 ∷ 3 ∷ 4 ∷ 5 ∷ 6 ∷ []) 2 tt one)

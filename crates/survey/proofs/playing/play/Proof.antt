@@ -4,7 +4,8 @@
 use Prim.Native.Nat.{ℕ, _-_, _≤_, _<_}
 use native.Mathlib.Omega.{arith}
 use mathlib.Core.Path.{_≡_, _∙_, refl, sym, ap}
-use mathlib.Core.Bool.{false}
+use mathlib.Core.Bool.{false, true≢false}
+use mathlib.Core.Logic.{⊎-elim}
 use mathlib.Core.List.{List}
 use lib.ListN.{length}
 use borrow.Author.Needs.{needs}
@@ -60,7 +61,7 @@ noted-on c =
 
 -- Where a command is decided: after which turn, and what was read
 abbrev read-of : tie.After-decide Inv-loop μ-loop Inv-lines μ-lines → tie.After-command Inv-loop μ-loop Inv-lines μ-lines
-read-of d = d .before .before .before .before .before .before .before .before .before
+read-of d = d .before .before .before .before .before .before .before .before
 
 abbrev in-line : tie.After-decide Inv-loop μ-loop Inv-lines μ-lines → tie.At-loop Inv-loop μ-loop Inv-lines μ-lines
 in-line d = read-of d .before .before .before .before
@@ -78,8 +79,11 @@ read-so d = sym (read-of d .before .before .read .ensures .0) ∙ ap reading (re
 made : (d : tie.After-decide Inv-loop μ-loop Inv-lines μ-lines) → Made (command-of d) (survey-at (in-line d)) (d .decide .result)
 unfolding opened
 made d =
-    let named = d .before .before .before .before .before .before .before in
-    decides _ _ (named .names .result) _ _ (not-ended (in-line d)) (named .names .ensures) (search) (d .decide .ensures)
+    let seen = d .before .before .before in
+    let named = seen .before .before .before in
+    decides _ _ (named .names .result) _ _ (not-ended (in-line d)) (named .names .ensures)
+    (λ is-line. ⊎-elim (λ w. sym (w .3 ∙ w .2 .ensures)) (λ w. absurd (true≢false (sym is-line ∙ w .0 .left))) (seen .if1 .came))
+    (d .decide .ensures)
 
 -- so playing goes on from the survey with the change stored, where there is one
 module _ (d : tie.After-decide Inv-loop μ-loop Inv-lines μ-lines) {change : Change} {t : Survey} (is : d .decide .result ≡ change)

@@ -1,6 +1,7 @@
 -- `survey::survey::Survey::apply` meets its contract: what is decided on what is seen of the survey is what the command makes of it.
 use mathlib.Core.Path.{_≡_, _∙_, sym, ap}
-use mathlib.Core.Bool.{true}
+use mathlib.Core.Bool.{true, true≢false}
+use mathlib.Core.Logic.{⊎-elim}
 use Rattle.biomass.specs.Report.{refused}
 use Rattle.survey.specs.Survey.{After, leaves, opened}
 use Rattle.survey.specs.Apply.{apply}
@@ -17,12 +18,15 @@ at-end k s is-ended e = e ∙ ap (leaves s) (sym (ended-refuses k s is-ended))
 
 -- what is decided is what the command makes of the survey
 made : (c : tie.After-decide) →
-    let start = c .before .before .before .before .before .before .before .before .before .before .args in
+    let start = c .before .before .before .before .before .before .before .before .before .args in
     Made (start .command) (start .t1) (c .decide .result)
 unfolding opened
 made c =
-    let named = c .before .before .before .before .before .before .before .before in
-    decides _ _ (named .names .result) _ _ (search) (named .names .ensures) (search) (c .decide .ensures)
+    let seen = c .before .before .before .before in
+    let named = seen .before .before .before in
+    decides _ _ (named .names .result) _ _ (search) (named .names .ensures)
+    (λ is-line. ⊎-elim (λ w. sym (w .3 ∙ w .2 .ensures)) (λ w. absurd (true≢false (sym is-line ∙ w .0 .left))) (seen .if2 .came))
+    (c .decide .ensures)
 
 changed-requires : tie.Need-changed-requires
 changed-requires c κs = tt
