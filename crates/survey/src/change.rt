@@ -219,8 +219,7 @@ fn closing(seen: Seen, line: Line, factors: &[u8; 101]) -> Change
     if !seen.active {
         return Change::Refused(Refusal::NoLine);
     }
-    let given = *factors;
-    let row = match line.row(given) {
+    let row = match line.row(factors) {
         Closed::Is(row) => row,
         Closed::Refused(why) => return Change::Refused(why),
     };

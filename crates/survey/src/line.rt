@@ -96,7 +96,7 @@ impl Line {
     }
 
     // So many trees of a class more.
-    pub fn measured(self, class: u8, count: u16) -> Noted
+    pub fn measured(mut self, class: u8, count: u16) -> Noted
         ensures { λ r. ⌜ noted r ≡ measured class count self ⌝ }
     {
         let cm = class as u64;
@@ -117,14 +117,13 @@ impl Line {
         }
         let n = self.tally.n + trees;
         let squares = self.tally.squares + added;
-        let tally = Tally { n, squares };
-        let mut line = self;
-        line.tally = tally;
-        Noted::Is(line)
+        self.tally.n = n;
+        self.tally.squares = squares;
+        Noted::Is(self)
     }
 
     // One height tree more.
-    pub fn height(self, cm: u8, tenths: u16) -> Noted
+    pub fn height(mut self, cm: u8, tenths: u16) -> Noted
         ensures { λ r. ⌜ noted r ≡ height cm tenths self ⌝ }
     {
         let tariff = match tariff_of(self.species, cm, tenths) {
@@ -140,10 +139,9 @@ impl Line {
         }
         let number = self.heights.number + 1;
         let tariffs = self.heights.tariffs + tariff;
-        let heights = Heights { number, tariffs };
-        let mut line = self;
-        line.heights = heights;
-        Noted::Is(line)
+        self.heights.number = number;
+        self.heights.tariffs = tariffs;
+        Noted::Is(self)
     }
 
     // The row of a line without measured trees.
@@ -165,7 +163,7 @@ impl Line {
     }
 
     // The row of a line whose tariff, mean diameter, factor and number of trees are known.
-    fn worked(self, tariff: u64, d: u64, factor: u64, number: u64) -> Closed
+    fn worked(self, tariff: u64, d: u64, factor: u8, number: u64) -> Closed
         requires { ⌜ Inside 1 tariff 50 × Inside leastD d greatestD × (number ≤ mostEstimated) ⌝ }
         ensures { λ r. ⌜ rowed r ≡ worked self tariff d factor number ⌝ }
     {
@@ -173,7 +171,7 @@ impl Line {
         let average = AverageTree {
             tariff,
             d,
-            factor,
+            factor: factor as u64,
             gravity: s.gravity as u64,
             crown: s.crown as u64,
             root: s.root as u64,
@@ -193,15 +191,15 @@ impl Line {
     }
 
     // The row of a line with measured trees and height trees, worked with the factor at its mean diameter.
-    fn some_row(self, factors: [u8; 101]) -> Closed
-        ensures { λ r. ⌜ rowed r ≡ someRow factors self ⌝ }
+    fn some_row(self, factors: &[u8; 101]) -> Closed
+        ensures { λ r. ⌜ rowed r ≡ someRow (now (factors .entry)) self ⌝ }
     {
         let d = match mean(self.tally.n, self.tally.squares) {
             Count::Is(d) => d,
             Count::Refused(why) => return Closed::Refused(of_figure(why)),
         };
         let cm = (d / UNITS_TO_CM) as usize;
-        let factor = factors[cm] as u64;
+        let factor = factors[cm];
         if factor == 0 {
             return Closed::Refused(Refusal::NoFactor);
         }
@@ -220,8 +218,8 @@ impl Line {
     }
 
     // The line closed: its row.
-    pub fn row(self, factors: [u8; 101]) -> Closed
-        ensures { λ r. ⌜ rowed r ≡ lineRow factors self ⌝ }
+    pub fn row(self, factors: &[u8; 101]) -> Closed
+        ensures { λ r. ⌜ rowed r ≡ lineRow (now (factors .entry)) self ⌝ }
     {
         if self.tally.n == 0 {
             return Closed::Is(self.empty_row());

@@ -33,8 +33,13 @@ returns c =
     let more : negative c .n + 1 ≡ suc (negative c .n) = omega arith in
     ap (λ z. natAbs z + 1) (negative c .turned) ∙ more ∙ ap natAbs (sym (negative c .is))
 
-returns-2 : tie.Need-returns-2
-returns-2 c = search needs
-
 pub size-spec : {M : Type 1} → statement M
-size-spec = tie.close (tie.spec sub-result cast-result add-result cast-result-2 returns returns-2)
+size-spec =
+    tie.close
+    (tie.spec
+    sub-result
+    cast-result
+    add-result
+    cast-result-2
+    returns
+    (λ c. search needs))

@@ -19,49 +19,21 @@ groups = record { coefficient = crown-k; few = lit< tt; rising = crown-rising }
 power-fits : {p d : ℕ} → p ≡ w d → d ≤ crownLimit → p < 2 ^ 32
 power-fits {d} is h = omega (arith, w-most d h)
 
-crown-row-requires : tie.Need-crown-row-requires
-crown-row-requires c κs = omega arith
-
-array-copy-out-on-curve : tie.Need-array-copy-out-on-curve
-array-copy-out-on-curve c = omega arith
-
-cast-on-curve : tie.Need-cast-on-curve
-cast-on-curve c = search (not-negative groups, cast-fits groups)
-
-crown-power-requires : tie.Need-crown-power-requires
-crown-power-requires c κs = omega arith
-
 on-curve-requires : tie.Need-on-curve-requires
 on-curve-requires c κs = (lit< tt, search (narrow groups), search power-fits)
 
-returns : tie.Need-returns
-unfolding crownEnds
-returns c = search (by-curve groups)
-
-array-copy-out-on-line : tie.Need-array-copy-out-on-line
-array-copy-out-on-line c = omega arith
-
-array-copy-out-on-line-2 : tie.Need-array-copy-out-on-line-2
-array-copy-out-on-line-2 c = omega arith
-
-on-line-requires : tie.Need-on-line-requires
-on-line-requires c κs = search (risen groups)
-
-returns-2 : tie.Need-returns-2
-unfolding crownEnds
-returns-2 c = search (by-line groups)
-
 pub crown-in-range-spec : {M : Type 1} → statement M
+unfolding crownEnds
 crown-in-range-spec =
     tie.close
     (tie.spec
-    crown-row-requires
-    array-copy-out-on-curve
-    cast-on-curve
-    crown-power-requires
+    (λ c κs. omega arith)
+    (λ c. omega arith)
+    (λ c. search (not-negative groups, cast-fits groups))
+    (λ c κs. omega arith)
     on-curve-requires
-    returns
-    array-copy-out-on-line
-    array-copy-out-on-line-2
-    on-line-requires
-    returns-2)
+    (λ c. search (by-curve groups))
+    (λ c. omega arith)
+    (λ c. omega arith)
+    (λ c κs. search (risen groups))
+    (λ c. search (by-line groups)))

@@ -8,15 +8,6 @@ use Rattle.biomass.proofs.Power.{holds-w, read-is-w}
 use Rattle.biomass.proofs.crown.crown_power.Statement.{statement}
 use Rattle.biomass.proofs.crown.crown_power.Tie as tie
 
-sub-at : tie.Need-sub-at
-sub-at c = omega arith
-
-mul-result : tie.Need-mul-result
-mul-result c = omega arith
-
-array-read-result : tie.Need-array-read-result
-array-read-result c = omega arith
-
 returns : tie.Need-returns
 returns c =
     let low : leastD ≤ c .args .d = c .pre .0 in
@@ -24,4 +15,10 @@ returns c =
     rw read-is-w (unfold holds-w tested near in refl)
 
 pub crown-power-spec : {M : Type 1} → statement M
-crown-power-spec = tie.close (tie.spec sub-at mul-result array-read-result returns)
+crown-power-spec =
+    tie.close
+    (tie.spec
+    (λ c. omega arith)
+    (λ c. omega arith)
+    (λ c. omega arith)
+    returns)

@@ -4,14 +4,10 @@ use mathlib.Core.Path.{refl}
 use Rattle.biomass.proofs.crown.crown_row.Statement.{statement}
 use Rattle.biomass.proofs.crown.crown_row.Tie as tie
 
-mul-result : tie.Need-mul-result
-mul-result c = omega arith
-
-array-copy-out-result : tie.Need-array-copy-out-result
-array-copy-out-result c = omega arith
-
-returns : tie.Need-returns
-returns c = refl
-
 pub crown-row-spec : {M : Type 1} → statement M
-crown-row-spec = tie.close (tie.spec mul-result array-copy-out-result returns)
+crown-row-spec =
+    tie.close
+    (tie.spec
+    (λ c. omega arith)
+    (λ c. omega arith)
+    (λ c. refl))

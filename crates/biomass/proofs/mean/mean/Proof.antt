@@ -14,42 +14,16 @@ least-fits few = omega arith
 most-fits : {n : ℕ} → Inside 1 n mostMeasured → 10000 * n < 2 ^ 64
 most-fits few = omega arith
 
-within-requires : tie.Need-within-requires
-within-requires c κs = tt
-
-returns : tie.Need-returns
-unfolding mean
-returns c = search ranged
-
-mul-within : tie.Need-mul-within
-mul-within c = search (least-fits, ranges)
-
-mul-within-2 : tie.Need-mul-within-2
-mul-within-2 c = search (most-fits, ranges)
-
-within-requires-2 : tie.Need-within-requires-2
-within-requires-2 c κs = tt
-
-returns-2 : tie.Need-returns-2
-unfolding mean
-returns-2 c = search ranged
-
-mean-of-requires : tie.Need-mean-of-requires
-mean-of-requires c κs = search ranges
-
-returns-3 : tie.Need-returns-3
-unfolding mean
-returns-3 c = search ranged
-
 pub mean-spec : {M : Type 1} → statement M
+unfolding mean
 mean-spec =
     tie.close
     (tie.spec
-    within-requires
-    returns
-    mul-within
-    mul-within-2
-    within-requires-2
-    returns-2
-    mean-of-requires
-    returns-3)
+    (λ c κs. tt)
+    (λ c. search ranged)
+    (λ c. search (least-fits, ranges))
+    (λ c. search (most-fits, ranges))
+    (λ c κs. tt)
+    (λ c. search ranged)
+    (λ c κs. search ranges)
+    (λ c. search ranged))

@@ -30,9 +30,6 @@ square-fits h = lt-of-le-of-lt (mul-le-mul h h) (lit< tt)
 product-fits : {x n : ℕ} → x ≤ greatestSide → n ≤ mostMeasured → x * x * n < 2 ^ 64
 product-fits h k = lt-of-le-of-lt (mul-le-mul (mul-le-mul h h) k) (lit< tt)
 
-add-above : tie.Need-add-above Inv-loop μ-loop
-add-above c = omega arith
-
 loop-holds : tie.Need-loop-holds Inv-loop μ-loop
 loop-holds c = (
   omega arith,
@@ -42,41 +39,11 @@ loop-holds c = (
   fails-past-greatest (c .args .n) (c .args .squares) (c .pre .0 .least) (c .pre .1 .most),
 )
 
-sub-loop : tie.Need-sub-loop Inv-loop μ-loop
-sub-loop c = omega arith
-
-sub-middle : tie.Need-sub-middle Inv-loop μ-loop
-sub-middle c = omega arith
-
-add-middle : tie.Need-add-middle Inv-loop μ-loop
-add-middle c = omega arith
-
-mul-side : tie.Need-mul-side Inv-loop μ-loop
-mul-side c = omega arith
-
-sub-side : tie.Need-sub-side Inv-loop μ-loop
-sub-side c = omega arith
-
 mul-if1 : tie.Need-mul-if1 Inv-loop μ-loop
 mul-if1 c = record { fits = square-fits (omega arith) }
 
 mul-if1-2 : tie.Need-mul-if1-2 Inv-loop μ-loop
 mul-if1-2 c = record { fits = product-fits (omega arith) (omega arith) }
-
-mul-if1-3 : tie.Need-mul-if1-3 Inv-loop μ-loop
-mul-if1-3 c = omega arith
-
-loop-less : tie.Need-loop-less Inv-loop μ-loop
-loop-less c = omega arith
-
-loop-again : tie.Need-loop-again Inv-loop μ-loop
-loop-again c = omega arith
-
-loop-less-2 : tie.Need-loop-less-2 Inv-loop μ-loop
-loop-less-2 c = omega arith
-
-loop-again-2 : tie.Need-loop-again-2 Inv-loop μ-loop
-loop-again-2 c = omega arith
 
 returns : tie.Need-returns Inv-loop μ-loop
 returns c =
@@ -91,18 +58,18 @@ mean-of-spec =
     (tie.spec
     Inv-loop
     μ-loop
-    add-above
+    (λ c. omega arith)
     loop-holds
-    sub-loop
-    sub-middle
-    add-middle
-    mul-side
-    sub-side
+    (λ c. omega arith)
+    (λ c. omega arith)
+    (λ c. omega arith)
+    (λ c. omega arith)
+    (λ c. omega arith)
     mul-if1
     mul-if1-2
-    mul-if1-3
-    loop-less
-    loop-again
-    loop-less-2
-    loop-again-2
+    (λ c. omega arith)
+    (λ c. omega arith)
+    (λ c. omega arith)
+    (λ c. omega arith)
+    (λ c. omega arith)
     returns)

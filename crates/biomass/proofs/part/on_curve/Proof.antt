@@ -13,23 +13,20 @@ product c = mul-le-mul {m₂ = 2 ^ 32} (le-of-lt (c .pre .1)) (omega arith)
 mul-t4 : tie.Need-mul-t4
 mul-t4 c = omega (arith, product c)
 
-div-t5 : tie.Need-div-t5
-div-t5 c = omega arith
-
-add-t7 : tie.Need-add-t7
-add-t7 c = omega arith
-
 mul-t8 : tie.Need-mul-t8
 mul-t8 c = omega (arith, product c)
-
-div-t9 : tie.Need-div-t9
-div-t9 c = omega arith
 
 add-t10 : tie.Need-add-t10
 add-t10 c = omega (arith, product c, div-le-self (c .args .coefficient * (c .args .power + 1)) (c .args .unit))
 
-returns : tie.Need-returns
-returns c = refl
-
 pub on-curve-spec : {M : Type 1} → statement M
-on-curve-spec = tie.close (tie.spec mul-t4 div-t5 add-t7 mul-t8 div-t9 add-t10 returns)
+on-curve-spec =
+    tie.close
+    (tie.spec
+    mul-t4
+    (λ c. omega arith)
+    (λ c. omega arith)
+    mul-t8
+    (λ c. omega arith)
+    add-t10
+    (λ c. refl))

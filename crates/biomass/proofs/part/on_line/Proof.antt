@@ -33,14 +33,8 @@ risen c = kept (sum c) tt .is ∙ c .pre .is
 risen-small : (c : tie.Start) → c .pre .risen ≤ most
 risen-small c = subst (λ z. natAbs z ≤ most) (c .pre .is) (sum c .size)
 
-cast-risen : tie.Need-cast-risen
-cast-risen c = omega arith
-
 mul-risen : tie.Need-mul-risen
 mul-risen c = fits (from-start c) tt
-
-cast-risen-2 : tie.Need-cast-risen-2
-cast-risen-2 c = omega arith
 
 mul-risen-2 : tie.Need-mul-risen-2
 mul-risen-2 c = fits (by-rise c) tt
@@ -60,4 +54,12 @@ returns c = rw (risen c, c .pre .is)
 pub on-line-spec : {M : Type 1} → statement M
 on-line-spec =
     tie.close
-    (tie.spec cast-risen mul-risen cast-risen-2 mul-risen-2 add-risen cast-low add-t10 returns)
+    (tie.spec
+    (λ c. omega arith)
+    mul-risen
+    (λ c. omega arith)
+    mul-risen-2
+    add-risen
+    cast-low
+    add-t10
+    returns)

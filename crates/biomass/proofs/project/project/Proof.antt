@@ -31,47 +31,17 @@ module _ (sums : BiomassRange) {N : ℕ} {low : Grams} (low-is : low ≡ dioxide
 -- the tests and the figures
 ruleset figures = (refuses, goes-on, of-none, of-some)
 
-within-requires : tie.Need-within-requires
-within-requires c κs = tt
-
-returns : tie.Need-returns
-unfolding project
-returns c = search figures
-
-within-requires-2 : tie.Need-within-requires-2
-within-requires-2 c κs = tt
-
-returns-2 : tie.Need-returns-2
-unfolding project
-returns-2 c = search figures
-
-dioxide-requires : tie.Need-dioxide-requires
-dioxide-requires c κs = search (few, ranges)
-
-returns-3 : tie.Need-returns-3
-unfolding project
-returns-3 c = search figures
-
-dioxide-requires-2 : tie.Need-dioxide-requires-2
-dioxide-requires-2 c κs = search (few, ranges)
-
-add-t10 : tie.Need-add-t10
-add-t10 c = search (more-fits, ranges)
-
-returns-4 : tie.Need-returns-4
-unfolding project
-returns-4 c = search figures
-
 pub project-spec : {M : Type 1} → statement M
+unfolding project
 project-spec =
     tie.close
     (tie.spec
-    within-requires
-    returns
-    within-requires-2
-    returns-2
-    dioxide-requires
-    returns-3
-    dioxide-requires-2
-    add-t10
-    returns-4)
+    (λ c κs. tt)
+    (λ c. search figures)
+    (λ c κs. tt)
+    (λ c. search figures)
+    (λ c κs. search (few, ranges))
+    (λ c. search figures)
+    (λ c κs. search (few, ranges))
+    (λ c. search (more-fits, ranges))
+    (λ c. search figures))

@@ -19,49 +19,21 @@ groups = record { coefficient = root-b; few = lit< tt; rising = root-rising }
 power-fits : {p d : ℕ} → p ≡ y d → d ≤ rootLimit → p < 2 ^ 32
 power-fits {d} is h = omega (arith, y-most d h)
 
-root-row-requires : tie.Need-root-row-requires
-root-row-requires c κs = omega arith
-
-array-copy-out-on-curve : tie.Need-array-copy-out-on-curve
-array-copy-out-on-curve c = omega arith
-
-cast-on-curve : tie.Need-cast-on-curve
-cast-on-curve c = search (not-negative groups, cast-fits groups)
-
-root-power-requires : tie.Need-root-power-requires
-root-power-requires c κs = omega arith
-
 on-curve-requires : tie.Need-on-curve-requires
 on-curve-requires c κs = (lit< tt, search (narrow groups), search power-fits)
 
-returns : tie.Need-returns
-unfolding rootEnds
-returns c = search (by-curve groups)
-
-array-copy-out-on-line : tie.Need-array-copy-out-on-line
-array-copy-out-on-line c = omega arith
-
-array-copy-out-on-line-2 : tie.Need-array-copy-out-on-line-2
-array-copy-out-on-line-2 c = omega arith
-
-on-line-requires : tie.Need-on-line-requires
-on-line-requires c κs = search (risen groups)
-
-returns-2 : tie.Need-returns-2
-unfolding rootEnds
-returns-2 c = search (by-line groups)
-
 pub root-in-range-spec : {M : Type 1} → statement M
+unfolding rootEnds
 root-in-range-spec =
     tie.close
     (tie.spec
-    root-row-requires
-    array-copy-out-on-curve
-    cast-on-curve
-    root-power-requires
+    (λ c κs. omega arith)
+    (λ c. omega arith)
+    (λ c. search (not-negative groups, cast-fits groups))
+    (λ c κs. omega arith)
     on-curve-requires
-    returns
-    array-copy-out-on-line
-    array-copy-out-on-line-2
-    on-line-requires
-    returns-2)
+    (λ c. search (by-curve groups))
+    (λ c. omega arith)
+    (λ c. omega arith)
+    (λ c κs. search (risen groups))
+    (λ c. search (by-line groups)))

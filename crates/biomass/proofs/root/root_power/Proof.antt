@@ -41,9 +41,6 @@ mul-square-root-4 c = record { fits = lt-of-le-of-lt (five (c .pre)) (lit< tt) }
 mul-square-root-5 : tie.Need-mul-square-root-5
 mul-square-root-5 c = record { fits = lt-of-le-of-lt (mul-le-mul-left 100000 (five (c .pre))) (lit< tt) }
 
-square-root-requires : tie.Need-square-root-requires
-square-root-requires c κs = tt
-
 returns : tie.Need-returns
 unfolding y
 returns c = c .square-root .ensures ∙ ap (λ (x : ℕ). wholeRoot 2 (100000 * x)) (fifth _)
@@ -57,5 +54,5 @@ root-power-spec =
     mul-square-root-3
     mul-square-root-4
     mul-square-root-5
-    square-root-requires
+    (λ c κs. tt)
     returns)

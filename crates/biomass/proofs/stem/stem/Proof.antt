@@ -11,52 +11,21 @@ use Rattle.biomass.proofs.stem.stem.Tie as tie
 asked : {T d f s : ℕ} → Inside 1 T 50 → Inside leastD d greatestD → Inside 100 f 200 → Inside 1 s 100 → InRange T d × (f ≤ 200) × (s ≤ 100)
 asked tariff d f s = ((tariff .least, tariff .most, d .least, d .most), f .most, s .most)
 
-within-requires : tie.Need-within-requires
-within-requires c κs = tt
-
-returns : tie.Need-returns
-unfolding stem
-returns c = search ranged depth 14
-
-within-requires-2 : tie.Need-within-requires-2
-within-requires-2 c κs = tt
-
-returns-2 : tie.Need-returns-2
-unfolding stem
-returns-2 c = search ranged depth 14
-
-within-requires-3 : tie.Need-within-requires-3
-within-requires-3 c κs = tt
-
-returns-3 : tie.Need-returns-3
-unfolding stem
-returns-3 c = search ranged depth 14
-
-within-requires-4 : tie.Need-within-requires-4
-within-requires-4 c κs = tt
-
-returns-4 : tie.Need-returns-4
-unfolding stem
-returns-4 c = search ranged depth 14
-
 stem-in-range-requires : tie.Need-stem-in-range-requires
 stem-in-range-requires c κs = asked (search ranges) (search ranges) (search ranges) (search ranges)
 
-returns-5 : tie.Need-returns-5
-unfolding stem
-returns-5 c = search ranged depth 14
-
 pub stem-spec : {M : Type 1} → statement M
+unfolding stem
 stem-spec =
     tie.close
     (tie.spec
-    within-requires
-    returns
-    within-requires-2
-    returns-2
-    within-requires-3
-    returns-3
-    within-requires-4
-    returns-4
+    (λ c κs. tt)
+    (λ c. search ranged depth 14)
+    (λ c κs. tt)
+    (λ c. search ranged depth 14)
+    (λ c κs. tt)
+    (λ c. search ranged depth 14)
+    (λ c κs. tt)
+    (λ c. search ranged depth 14)
     stem-in-range-requires
-    returns-5)
+    (λ c. search ranged depth 14))

@@ -28,9 +28,6 @@ ends T d f s l h low high most = ap range (sym (stem-ends (record { low = low; h
 volume-requires : tie.Need-volume-requires
 volume-requires c κs = c .pre .0
 
-add-high : tie.Need-add-high
-add-high c = omega arith
-
 mul-t8 : tie.Need-mul-t8
 mul-t8 c = record { fits = by-factor _ _ (omega arith) (omega arith) }
 
@@ -46,9 +43,15 @@ mul-t13 c = record { fits = by-gravity _ _ _ (omega arith) (omega arith) (omega 
 add-t15 : tie.Need-add-t15
 add-t15 c = record { fits = one-more _ _ _ (omega arith) (omega arith) (omega arith) }
 
-returns : tie.Need-returns
-returns c = search ends
-
 pub stem-in-range-spec : {M : Type 1} → statement M
 stem-in-range-spec =
-    tie.close (tie.spec volume-requires add-high mul-t8 mul-t9 mul-t12 mul-t13 add-t15 returns)
+    tie.close
+    (tie.spec
+    volume-requires
+    (λ c. omega arith)
+    mul-t8
+    mul-t9
+    mul-t12
+    mul-t13
+    add-t15
+    (λ c. search ends))

@@ -12,26 +12,11 @@ mul-area c = omega (arith, mul-le-mul (c .pre .3) (c .pre .3))
 mul-area-2 : tie.Need-mul-area-2
 mul-area-2 c = omega (arith, mul-le-mul (c .pre .3) (c .pre .3))
 
-mul-slope : tie.Need-mul-slope
-mul-slope c = omega arith
-
-sub-slope : tie.Need-sub-slope
-sub-slope c = omega arith
-
-mul-slope-2 : tie.Need-mul-slope-2
-mul-slope-2 c = omega arith
-
-mul-base : tie.Need-mul-base
-mul-base c = omega arith
-
 mul-t12 : tie.Need-mul-t12
 mul-t12 c = omega (arith, rise-fits _ _ (c .before .pre))
 
 add-t13 : tie.Need-add-t13
 add-t13 c = omega (arith, rise-fits _ _ (c .before .pre))
-
-add-t14 : tie.Need-add-t14
-add-t14 c = omega arith
 
 add-t15 : tie.Need-add-t15
 add-t15 c = omega (arith, rise-fits _ _ (c .before .pre))
@@ -45,20 +30,11 @@ add-t17 c = omega (arith, rise-fits _ _ (c .before .pre))
 returns : tie.Need-returns
 returns c = let v = volumes-over _ _ (c .before .pre) (c .if1 .taken) in (v .low, v .high, v .most)
 
-sub-under : tie.Need-sub-under
-sub-under c = omega arith
-
-add-t8 : tie.Need-add-t8
-add-t8 c = omega arith
-
 mul-t9 : tie.Need-mul-t9
 mul-t9 c = omega (arith, greater-fall-fits _ _ (c .before .pre))
 
 sub-t10 : tie.Need-sub-t10
 sub-t10 c = omega (arith, greater-fall-fits _ _ (c .before .pre))
-
-sub-t18 : tie.Need-sub-t18
-sub-t18 c = omega arith
 
 mul-t19 : tie.Need-mul-t19
 mul-t19 c = omega (arith, lesser-fall-fits _ _ (c .before .pre))
@@ -75,22 +51,22 @@ volume-spec =
     (tie.spec
     mul-area
     mul-area-2
-    mul-slope
-    sub-slope
-    mul-slope-2
-    mul-base
+    (λ c. omega arith)
+    (λ c. omega arith)
+    (λ c. omega arith)
+    (λ c. omega arith)
     mul-t12
     add-t13
-    add-t14
+    (λ c. omega arith)
     add-t15
     mul-t16
     add-t17
     returns
-    sub-under
-    add-t8
+    (λ c. omega arith)
+    (λ c. omega arith)
     mul-t9
     sub-t10
-    sub-t18
+    (λ c. omega arith)
     mul-t19
     sub-t20
     returns-2)

@@ -14,31 +14,15 @@ most-fits few = omega arith
 some : {number : ℕ} → Inside 1 number mostHeights → 0 < number
 some few = few .least
 
-within-requires : tie.Need-within-requires
-within-requires c κs = tt
-
-returns : tie.Need-returns
-unfolding lineTariff
-returns c = search ranged
-
-mul-within : tie.Need-mul-within
-mul-within c = search (most-fits, ranges)
-
-within-requires-2 : tie.Need-within-requires-2
-within-requires-2 c κs = tt
-
-returns-2 : tie.Need-returns-2
-unfolding lineTariff
-returns-2 c = search ranged
-
-div-t6 : tie.Need-div-t6
-div-t6 c = search (some, ranges)
-
-returns-3 : tie.Need-returns-3
-unfolding lineTariff
-returns-3 c = search ranged
-
 pub line-tariff-spec : {M : Type 1} → statement M
+unfolding lineTariff
 line-tariff-spec =
     tie.close
-    (tie.spec within-requires returns mul-within within-requires-2 returns-2 div-t6 returns-3)
+    (tie.spec
+    (λ c κs. tt)
+    (λ c. search ranged)
+    (λ c. search (most-fits, ranges))
+    (λ c κs. tt)
+    (λ c. search ranged)
+    (λ c. search (some, ranges))
+    (λ c. search ranged))

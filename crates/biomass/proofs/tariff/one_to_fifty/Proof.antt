@@ -31,17 +31,11 @@ module _ {t : ℤ} (f : SFits w64 t) where
   between : ltZ (local t) (pos 1) ≡ false → ltZ (pos 50) (local t) ≡ false → gives (natAbs (local t)) ≡ fromOneToFifty t
   between h k = ap (λ (x : ℤ). gives (natAbs x)) (toZ-ofZ f) ∙ sym (one-to-fifty t (rw (toZ-ofZ f) at h) (rw (toZ-ofZ f) at k))
 
-returns : tie.Need-returns
-returns c = search below
-
-returns-2 : tie.Need-returns-2
-returns-2 c = search above
-
-cast-t5 : tie.Need-cast-t5
-cast-t5 c = search (natural, size-fits)
-
-returns-3 : tie.Need-returns-3
-returns-3 c = search between
-
 pub one-to-fifty-spec : {M : Type 1} → statement M
-one-to-fifty-spec = tie.close (tie.spec returns returns-2 cast-t5 returns-3)
+one-to-fifty-spec =
+    tie.close
+    (tie.spec
+    (λ c. search below)
+    (λ c. search above)
+    (λ c. search (natural, size-fits))
+    (λ c. search between))

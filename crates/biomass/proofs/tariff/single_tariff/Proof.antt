@@ -25,42 +25,16 @@ steps c1 c2 c3 c4 cm tenths sum-is quotient-is answer-is f1 f2 f3 f4 sum-fits qu
     let read = read-back sum-fits ∙ simp (toZ-ofZ f1, toZ-ofZ f2, toZ-ofZ f3, toZ-ofZ f4) at sum-is in
     answer-is ∙ ap fromOneToFifty (read-back quotient-fits ∙ quotient-is ∙ ap (λ (z : ℤ). z div 100000000) read)
 
-within-requires : tie.Need-within-requires
-within-requires c κs = tt
-
-returns : tie.Need-returns
-unfolding singleTariff
-returns c = search ranged
-
-within-requires-2 : tie.Need-within-requires-2
-within-requires-2 c κs = tt
-
-returns-2 : tie.Need-returns-2
-unfolding singleTariff
-returns-2 c = search ranged
-
-tariff-sum-requires : tie.Need-tariff-sum-requires
-tariff-sum-requires c κs = search ranges
-
-hundred-millionth-requires : tie.Need-hundred-millionth-requires
-hundred-millionth-requires c κs = tt
-
-one-to-fifty-requires : tie.Need-one-to-fifty-requires
-one-to-fifty-requires c κs = tt
-
-returns-3 : tie.Need-returns-3
-unfolding singleTariff
-returns-3 c = search (ranged, steps)
-
 pub single-tariff-spec : {M : Type 1} → statement M
+unfolding singleTariff
 single-tariff-spec =
     tie.close
     (tie.spec
-    within-requires
-    returns
-    within-requires-2
-    returns-2
-    tariff-sum-requires
-    hundred-millionth-requires
-    one-to-fifty-requires
-    returns-3)
+    (λ c κs. tt)
+    (λ c. search ranged)
+    (λ c κs. tt)
+    (λ c. search ranged)
+    (λ c κs. search ranges)
+    (λ c κs. tt)
+    (λ c κs. tt)
+    (λ c. search (ranged, steps)))

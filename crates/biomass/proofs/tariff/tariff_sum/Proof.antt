@@ -69,12 +69,6 @@ module _ (c : tie.Start) where
       (10 * 2 ^ 31 + 2 ^ 31 * 600 + 10 * 2 ^ 31 * 100 + 2 ^ 31 * 100 * 600)
   four = plus (kept three tt) (kept term-4 tt)
 
-cast-wide : tie.Need-cast-wide
-cast-wide c = omega arith
-
-cast-high : tie.Need-cast-high
-cast-high c = omega arith
-
 cast-result : tie.Need-cast-result
 cast-result c = fits (word (c .fits .c1)) tt
 
@@ -124,8 +118,8 @@ pub tariff-sum-spec : {M : Type 1} → statement M
 tariff-sum-spec =
     tie.close
     (tie.spec
-    cast-wide
-    cast-high
+    (λ c. omega arith)
+    (λ c. omega arith)
     cast-result
     mul-result
     cast-result-2

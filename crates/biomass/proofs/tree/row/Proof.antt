@@ -48,55 +48,22 @@ module _ {N : ℕ} (low x y : ℕ) where
 -- the test, the tree and the row
 ruleset rows = (refuses, goes-on, follows-biomass, stops-biomass, of-none, of-some)
 
-within-requires : tie.Need-within-requires
-within-requires c κs = tt
-
-returns : tie.Need-returns
-unfolding row
-returns c = search rows
-
-tree-requires : tie.Need-tree-requires
-tree-requires c κs = tt
-
-enum-known-m : tie.Need-enum-known-m
-enum-known-m c = search needs
-
-enum-known-why : tie.Need-enum-known-why
-enum-known-why c = search needs
-
-returns-2 : tie.Need-returns-2
-unfolding row
-returns-2 c = search rows
-
-mul-t12 : tie.Need-mul-t12
-mul-t12 c = search (low-fits, ranges)
-
-returns-3 : tie.Need-returns-3
-unfolding row
-returns-3 c = search rows
-
-mul-t13 : tie.Need-mul-t13
-mul-t13 c = search (high-fits, ranges)
-
 add-t16 : tie.Need-add-t16
 add-t16 c = record { fits = end-fits _ _ (search (high-fits, ranges)) (lit≤ tt) }
 
-returns-4 : tie.Need-returns-4
-unfolding row
-returns-4 c = search rows
-
 pub row-spec : {M : Type 1} → statement M
+unfolding row
 row-spec =
     tie.close
     (tie.spec
-    within-requires
-    returns
-    tree-requires
-    enum-known-m
-    enum-known-why
-    returns-2
-    mul-t12
-    returns-3
-    mul-t13
+    (λ c κs. tt)
+    (λ c. search rows)
+    (λ c κs. tt)
+    (λ c. search needs)
+    (λ c. search needs)
+    (λ c. search rows)
+    (λ c. search (low-fits, ranges))
+    (λ c. search rows)
+    (λ c. search (high-fits, ranges))
     add-t16
-    returns-4)
+    (λ c. search rows))

@@ -42,79 +42,25 @@ module _ {s c r : BiomassRange} {on-stem on-crown on-root : Biomass} (T d f g cr
 -- what a part gives, and what it declines
 ruleset parts = (follows-biomass, stops-biomass)
 
-stem-requires : tie.Need-stem-requires
-stem-requires c κs = tt
-
-enum-known-m : tie.Need-enum-known-m
-enum-known-m c = search needs
-
-enum-known-why : tie.Need-enum-known-why
-enum-known-why c = search needs
-
-returns : tie.Need-returns
-unfolding tree
-returns c = search parts
-
-crown-requires : tie.Need-crown-requires
-crown-requires c κs = tt
-
-enum-known-m-2 : tie.Need-enum-known-m-2
-enum-known-m-2 c = search needs
-
-enum-known-why-2 : tie.Need-enum-known-why-2
-enum-known-why-2 c = search needs
-
-returns-2 : tie.Need-returns-2
-unfolding tree
-returns-2 c = search parts
-
-root-requires : tie.Need-root-requires
-root-requires c κs = tt
-
-enum-known-m-3 : tie.Need-enum-known-m-3
-enum-known-m-3 c = search needs
-
-enum-known-why-3 : tie.Need-enum-known-why-3
-enum-known-why-3 c = search needs
-
-returns-3 : tie.Need-returns-3
-unfolding tree
-returns-3 c = search parts
-
-add-t17 : tie.Need-add-t17
-add-t17 c = search two-lows
-
-add-t18 : tie.Need-add-t18
-add-t18 c = search lows
-
-add-t20 : tie.Need-add-t20
-add-t20 c = search two-highs
-
-add-t21 : tie.Need-add-t21
-add-t21 c = search highs
-
-returns-4 : tie.Need-returns-4
-unfolding tree
-returns-4 c = search parts
-
 pub tree-spec : {M : Type 1} → statement M
+unfolding tree
 tree-spec =
     tie.close
     (tie.spec
-    stem-requires
-    enum-known-m
-    enum-known-why
-    returns
-    crown-requires
-    enum-known-m-2
-    enum-known-why-2
-    returns-2
-    root-requires
-    enum-known-m-3
-    enum-known-why-3
-    returns-3
-    add-t17
-    add-t18
-    add-t20
-    add-t21
-    returns-4)
+    (λ c κs. tt)
+    (λ c. search needs)
+    (λ c. search needs)
+    (λ c. search parts)
+    (λ c κs. tt)
+    (λ c. search needs)
+    (λ c. search needs)
+    (λ c. search parts)
+    (λ c κs. tt)
+    (λ c. search needs)
+    (λ c. search needs)
+    (λ c. search parts)
+    (λ c. search two-lows)
+    (λ c. search lows)
+    (λ c. search two-highs)
+    (λ c. search highs)
+    (λ c. search parts))

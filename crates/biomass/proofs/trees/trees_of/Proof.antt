@@ -10,24 +10,19 @@ use Rattle.biomass.proofs.trees.trees_of.Tie as tie
 product : (c : tie.Start) → c .args .n * c .args .p ≤ mostMeasured * greatestArea
 product c = mul-le-mul (c .pre .0 .most) (c .pre .1 .most)
 
-mul-result : tie.Need-mul-result
-mul-result c = omega arith
-
 mul-result-2 : tie.Need-mul-result-2
 mul-result-2 c = omega (arith, product c)
 
 add-result : tie.Need-add-result
 add-result c = omega (arith, product c)
 
-mul-result-3 : tie.Need-mul-result-3
-mul-result-3 c = omega arith
-
-div-result : tie.Need-div-result
-div-result c = omega arith
-
-returns : tie.Need-returns
-returns c = refl
-
 pub trees-of-spec : {M : Type 1} → statement M
 trees-of-spec =
-    tie.close (tie.spec mul-result mul-result-2 add-result mul-result-3 div-result returns)
+    tie.close
+    (tie.spec
+    (λ c. omega arith)
+    mul-result-2
+    add-result
+    (λ c. omega arith)
+    (λ c. omega arith)
+    (λ c. refl))

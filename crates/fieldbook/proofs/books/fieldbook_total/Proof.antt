@@ -19,26 +19,8 @@ promised : {r : ℕ} {ns x : List ℕ} (book sheet : List ℕ) → let answered 
     → (r ≡ bookRefusal answered) × ((ns ≡ totals answered) × ((x ≡ Total.sheetAfter book sheet) × Demanded book (told r ns)))
 promised book sheet e es laid = (e, (es, (laid, subst (Demanded book) (sym (ap₂ told e es ∙ told-again book sheet)) (demanded book sheet))))
 
-total-requires : tie.Need-total-requires
-total-requires c κs = tt
-
-enum-known-t : tie.Need-enum-known-t
-enum-known-t c = search needs
-
-enum-known-why : tie.Need-enum-known-why
-enum-known-why c = search needs
-
-number-requires : tie.Need-number-requires
-number-requires c κs = tt
-
-same-length : tie.Need-same-length
-same-length c = search needs
-
 returns : tie.Need-returns
 returns c = promised _ _ (search (by-case answer bookRefusal)) (search (by-case answer totals)) (search)
-
-same-length-2 : tie.Need-same-length-2
-same-length-2 c = search needs
 
 returns-2 : tie.Need-returns-2
 returns-2 c = promised _ _ (search (by-case answer bookRefusal)) (search (by-case answer totals)) (search)
@@ -47,11 +29,11 @@ pub fieldbook-total-spec : {M : Type 1} → statement M
 fieldbook-total-spec =
     tie.close
     (tie.spec
-    total-requires
-    enum-known-t
-    enum-known-why
-    number-requires
-    same-length
+    (λ c κs. tt)
+    (λ c. search needs)
+    (λ c. search needs)
+    (λ c κs. tt)
+    (λ c. search needs)
     returns
-    same-length-2
+    (λ c. search needs)
     returns-2)

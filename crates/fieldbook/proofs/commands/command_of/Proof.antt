@@ -29,42 +29,16 @@ compared ns are told e = ap (λ (l : List ℕ). Numbers.same l ns) (sym are) ∙
 
 ruleset made-checks = (was-cut, not-cut, stop-unless, past-unless, compared)
 
-cut-requires : tie.Need-cut-requires
-cut-requires c κs = tt
-
-enum-known-command : tie.Need-enum-known-command
-enum-known-command c = search needs
-
-numbers-of-requires : tie.Need-numbers-of-requires
-numbers-of-requires c κs = tt
-
-same-requires : tie.Need-same-requires
-same-requires c κs = tt
-
-enum-known-why : tie.Need-enum-known-why
-enum-known-why c = search needs
-
-returns : tie.Need-returns
-unfolding commandOf
-returns c = search made-checks
-
-returns-2 : tie.Need-returns-2
-unfolding commandOf
-returns-2 c = search made-checks
-
-returns-3 : tie.Need-returns-3
-unfolding commandOf
-returns-3 c = search made-checks
-
 pub command-of-spec : {M : Type 1} → statement M
+unfolding commandOf
 command-of-spec =
     tie.close
     (tie.spec
-    cut-requires
-    enum-known-command
-    numbers-of-requires
-    same-requires
-    enum-known-why
-    returns
-    returns-2
-    returns-3)
+    (λ c κs. tt)
+    (λ c. search needs)
+    (λ c κs. tt)
+    (λ c κs. tt)
+    (λ c. search needs)
+    (λ c. search made-checks)
+    (λ c. search made-checks)
+    (λ c. search made-checks))

@@ -6,42 +6,6 @@ use Rattle.fieldbook.specs.Numbers as Numbers
 use Rattle.fieldbook.proofs.commands.cut.Statement.{statement}
 use Rattle.fieldbook.proofs.commands.cut.Tie as tie
 
-array-read-first : tie.Need-array-read-first
-array-read-first c = omega arith
-
-cast-first : tie.Need-cast-first
-cast-first c = omega arith
-
-array-read-second : tie.Need-array-read-second
-array-read-second c = omega arith
-
-cast-second : tie.Need-cast-second
-cast-second c = omega arith
-
-array-read-pair : tie.Need-array-read-pair
-array-read-pair c = omega arith
-
-cast-pair : tie.Need-cast-pair
-cast-pair c = omega arith
-
-array-read-p : tie.Need-array-read-p
-array-read-p c = omega arith
-
-cast-p : tie.Need-cast-p
-cast-p c = omega arith
-
-array-read-q : tie.Need-array-read-q
-array-read-q c = omega arith
-
-cast-q : tie.Need-cast-q
-cast-q c = omega arith
-
-array-read-match : tie.Need-array-read-match
-array-read-match c = omega arith
-
-species-of-requires : tie.Need-species-of-requires
-species-of-requires c κs = tt
-
 returns : tie.Need-returns
 unfolding Numbers.cut
 returns c = rw (c .before .match .keys1, c .species-of .ensures)
@@ -79,18 +43,18 @@ pub cut-spec : {M : Type 1} → statement M
 cut-spec =
     tie.close
     (tie.spec
-    array-read-first
-    cast-first
-    array-read-second
-    cast-second
-    array-read-pair
-    cast-pair
-    array-read-p
-    cast-p
-    array-read-q
-    cast-q
-    array-read-match
-    species-of-requires
+    (λ c. omega arith)
+    (λ c. omega arith)
+    (λ c. omega arith)
+    (λ c. omega arith)
+    (λ c. omega arith)
+    (λ c. omega arith)
+    (λ c. omega arith)
+    (λ c. omega arith)
+    (λ c. omega arith)
+    (λ c. omega arith)
+    (λ c. omega arith)
+    (λ c κs. tt)
     returns
     returns-2
     returns-3

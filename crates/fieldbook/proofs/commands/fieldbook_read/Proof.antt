@@ -15,35 +15,14 @@ use Rattle.fieldbook.proofs.commands.fieldbook_read.Tie as tie
 place : {given report : Report (Command × ℕ)} {next : ℕ} (at : ℕ) → given ≡ report → next ≡ placeAfter at given → next ≡ placeAfter at report
 place at promise e = e ∙ ap (placeAfter at) promise
 
-command-at-requires : tie.Need-command-at-requires
-command-at-requires c κs = tt
-
-enum-known-reading : tie.Need-enum-known-reading
-enum-known-reading c = search needs
-
-numbers-of-requires : tie.Need-numbers-of-requires
-numbers-of-requires c κs = tt
-
-enum-known-reading-2 : tie.Need-enum-known-reading-2
-enum-known-reading-2 c = search needs
-
-number-requires : tie.Need-number-requires
-number-requires c κs = tt
-
-returns : tie.Need-returns
-returns c = search (by-case reading refusal, by-case reading command, place)
-
-returns-2 : tie.Need-returns-2
-returns-2 c = search (by-case reading refusal, by-case reading command, place)
-
 pub fieldbook-read-spec : {M : Type 1} → statement M
 fieldbook-read-spec =
     tie.close
     (tie.spec
-    command-at-requires
-    enum-known-reading
-    numbers-of-requires
-    enum-known-reading-2
-    number-requires
-    returns
-    returns-2)
+    (λ c κs. tt)
+    (λ c. search needs)
+    (λ c κs. tt)
+    (λ c. search needs)
+    (λ c κs. tt)
+    (λ c. search (by-case reading refusal, by-case reading command, place))
+    (λ c. search (by-case reading refusal, by-case reading command, place)))

@@ -54,38 +54,8 @@ module _ (b : List ℕ) (at : ℕ) (ns : List ℕ) where
       not-written : {r : ℕ} {why : Refusal} → w ≡ Written.Refused why → r ≡ number why → refused r ≡ writeNumbers b at ns
       not-written e n = ap refused n ∙ sym (ap writing e) ∙ written
 
-command-of-requires : tie.Need-command-of-requires
-command-of-requires c κs = tt
-
-enum-known-made : tie.Need-enum-known-made
-enum-known-made c = search needs
-
-write-requires : tie.Need-write-requires
-write-requires c κs = tt
-
-enum-known-after : tie.Need-enum-known-after
-enum-known-after c = search needs
-
-enum-known-why : tie.Need-enum-known-why
-enum-known-why c = search needs
-
-number-requires : tie.Need-number-requires
-number-requires c κs = tt
-
-enum-known-why-2 : tie.Need-enum-known-why-2
-enum-known-why-2 c = search needs
-
-number-requires-2 : tie.Need-number-requires-2
-number-requires-2 c κs = tt
-
-same-length : tie.Need-same-length
-same-length c = search needs
-
 returns : tie.Need-returns
 returns c = accepted _ _ _ (search was-written) (search laid)
-
-same-length-2 : tie.Need-same-length-2
-same-length-2 c = search needs
 
 returns-2 : tie.Need-returns-2
 returns-2 c = declined _ _ _ (search not-written) (search laid)
@@ -97,16 +67,16 @@ pub fieldbook-write-spec : {M : Type 1} → statement M
 fieldbook-write-spec =
     tie.close
     (tie.spec
-    command-of-requires
-    enum-known-made
-    write-requires
-    enum-known-after
-    enum-known-why
-    number-requires
-    enum-known-why-2
-    number-requires-2
-    same-length
+    (λ c κs. tt)
+    (λ c. search needs)
+    (λ c κs. tt)
+    (λ c. search needs)
+    (λ c. search needs)
+    (λ c κs. tt)
+    (λ c. search needs)
+    (λ c κs. tt)
+    (λ c. search needs)
     returns
-    same-length-2
+    (λ c. search needs)
     returns-2
     returns-3)

@@ -23,18 +23,6 @@ abbrev μ-loop : tie.MeasureT-loop
 loop-holds : tie.Need-loop-holds Inv-loop μ-loop
 loop-holds c = (omega arith, λ k below. absurd (omega arith))
 
-mul-if1 : tie.Need-mul-if1 Inv-loop μ-loop
-mul-if1 c = omega arith
-
-array-read-if1 : tie.Need-array-read-if1 Inv-loop μ-loop
-array-read-if1 c = omega arith
-
-mul-if1-2 : tie.Need-mul-if1-2 Inv-loop μ-loop
-mul-if1-2 c = omega arith
-
-array-read-if1-2 : tie.Need-array-read-if1-2 Inv-loop μ-loop
-array-read-if1-2 c = omega arith
-
 and-false : (b : Bool) → false ≡ b && false
 and-false true = refl
 and-false false = refl
@@ -56,20 +44,8 @@ agree a b i of-a of-b end all =
     let is : a ≡ b = ext-getD 0 a b (omega arith) λ k below. all k (omega arith) in
     sym (ap (Numbers.same a) (sym is) ∙ same-itself a)
 
-returns : tie.Need-returns Inv-loop μ-loop
-returns c = search differ-at
-
-add-i : tie.Need-add-i Inv-loop μ-loop
-add-i c = omega arith
-
-loop-less : tie.Need-loop-less Inv-loop μ-loop
-loop-less c = omega arith
-
 loop-again : tie.Need-loop-again Inv-loop μ-loop
 loop-again c = (omega arith, below-more _ _ (search) (search))
-
-returns-2 : tie.Need-returns-2 Inv-loop μ-loop
-returns-2 c = search agree
 
 pub same-spec : {M : Type 1} → statement M
 same-spec =
@@ -78,12 +54,12 @@ same-spec =
     Inv-loop
     μ-loop
     loop-holds
-    mul-if1
-    array-read-if1
-    mul-if1-2
-    array-read-if1-2
-    returns
-    add-i
-    loop-less
+    (λ c. omega arith)
+    (λ c. omega arith)
+    (λ c. omega arith)
+    (λ c. omega arith)
+    (λ c. search differ-at)
+    (λ c. omega arith)
+    (λ c. omega arith)
     loop-again
-    returns-2)
+    (λ c. search agree))

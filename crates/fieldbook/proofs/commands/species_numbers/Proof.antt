@@ -23,39 +23,15 @@ same-numbers : {n1 n2 n3 n4 : ℕ} (id : ℕ) (s : Species) → n1 ≡ extended 
     → 1 ∷ id ∷ s .crown ∷ s .root ∷ s .gravity ∷ n1 ∷ n2 ∷ n3 ∷ n4 ∷ [] ≡ numbers (Command.Species id s)
 same-numbers id s e1 e2 e3 e4 = cc
 
-cast-t4 : tie.Need-cast-t4
-cast-t4 c = omega arith
-
-cast-t5 : tie.Need-cast-t5
-cast-t5 c = omega arith
-
-cast-t6 : tie.Need-cast-t6
-cast-t6 c = omega arith
-
-wide-requires : tie.Need-wide-requires
-wide-requires c κs = tt
-
-wide-requires-2 : tie.Need-wide-requires-2
-wide-requires-2 c κs = tt
-
-wide-requires-3 : tie.Need-wide-requires-3
-wide-requires-3 c κs = tt
-
-wide-requires-4 : tie.Need-wide-requires-4
-wide-requires-4 c κs = tt
-
-returns : tie.Need-returns
-returns c = search (same-numbers, wide-is)
-
 pub species-numbers-spec : {M : Type 1} → statement M
 species-numbers-spec =
     tie.close
     (tie.spec
-    cast-t4
-    cast-t5
-    cast-t6
-    wide-requires
-    wide-requires-2
-    wide-requires-3
-    wide-requires-4
-    returns)
+    (λ c. omega arith)
+    (λ c. omega arith)
+    (λ c. omega arith)
+    (λ c κs. tt)
+    (λ c κs. tt)
+    (λ c κs. tt)
+    (λ c κs. tt)
+    (λ c. search (same-numbers, wide-is)))

@@ -9,15 +9,6 @@ use Rattle.fieldbook.specs.Numbers.{extended}
 use Rattle.fieldbook.proofs.commands.wide.Statement.{statement}
 use Rattle.fieldbook.proofs.commands.wide.Tie as tie
 
-bits-of-requires : tie.Need-bits-of-requires
-bits-of-requires c κs = tt
-
-cast-bits : tie.Need-cast-bits
-cast-bits c = omega arith
-
-add-result : tie.Need-add-result
-add-result c = omega arith
-
 lower : (n : ℕ) → n < 2147483648 → n ≡ extended n
 lower n h = rw lt-ltb
 
@@ -35,4 +26,11 @@ returns-2 : tie.Need-returns-2
 returns-2 c = upper _ (c .if1 .left) ∙ bits-are (c .before)
 
 pub wide-spec : {M : Type 1} → statement M
-wide-spec = tie.close (tie.spec bits-of-requires cast-bits add-result returns returns-2)
+wide-spec =
+    tie.close
+    (tie.spec
+    (λ c κs. tt)
+    (λ c. omega arith)
+    (λ c. omega arith)
+    returns
+    returns-2)

@@ -4,14 +4,13 @@ use Rattle.fieldbook.proofs.Handed.{handed}
 use Rattle.fieldbook.proofs.figures.fieldbook_root.Statement.{statement}
 use Rattle.fieldbook.proofs.figures.fieldbook_root.Tie as tie
 
-root-requires : tie.Need-root-requires
-root-requires c κs = tt
-
-lay-biomass-requires : tie.Need-lay-biomass-requires
-lay-biomass-requires c κs = tt
-
 returns : tie.Need-returns
 returns c = handed ends (c .lay-biomass .ensures) (c .before .before .root .ensures)
 
 pub fieldbook-root-spec : {M : Type 1} → statement M
-fieldbook-root-spec = tie.close (tie.spec root-requires lay-biomass-requires returns)
+fieldbook-root-spec =
+    tie.close
+    (tie.spec
+    (λ c κs. tt)
+    (λ c κs. tt)
+    returns)

@@ -4,14 +4,13 @@ use Rattle.fieldbook.proofs.Handed.{handed}
 use Rattle.fieldbook.proofs.figures.fieldbook_stem.Statement.{statement}
 use Rattle.fieldbook.proofs.figures.fieldbook_stem.Tie as tie
 
-stem-requires : tie.Need-stem-requires
-stem-requires c κs = tt
-
-lay-biomass-requires : tie.Need-lay-biomass-requires
-lay-biomass-requires c κs = tt
-
 returns : tie.Need-returns
 returns c = handed ends (c .lay-biomass .ensures) (c .before .before .stem .ensures)
 
 pub fieldbook-stem-spec : {M : Type 1} → statement M
-fieldbook-stem-spec = tie.close (tie.spec stem-requires lay-biomass-requires returns)
+fieldbook-stem-spec =
+    tie.close
+    (tie.spec
+    (λ c κs. tt)
+    (λ c κs. tt)
+    returns)

@@ -5,15 +5,6 @@ use Rattle.fieldbook.specs.Layout.{refusal, ends}
 use Rattle.fieldbook.proofs.figures.lay_biomass.Statement.{statement}
 use Rattle.fieldbook.proofs.figures.lay_biomass.Tie as tie
 
-enum-known-given : tie.Need-enum-known-given
-enum-known-given c = c .match .keys1
-
-enum-known-given-2 : tie.Need-enum-known-given-2
-enum-known-given-2 c = c .match .keys2
-
-number-requires : tie.Need-number-requires
-number-requires c κs = tt
-
 returns : tie.Need-returns
 returns c =
     let same = ap biomass (sym (c .before .before .given .given .1)) in
@@ -26,4 +17,10 @@ returns-2 c =
 
 pub lay-biomass-spec : {M : Type 1} → statement M
 lay-biomass-spec =
-    tie.close (tie.spec enum-known-given enum-known-given-2 number-requires returns returns-2)
+    tie.close
+    (tie.spec
+    (λ c. c .match .keys1)
+    (λ c. c .match .keys2)
+    (λ c κs. tt)
+    returns
+    returns-2)

@@ -6,14 +6,13 @@ use Rattle.survey.proofs.Complement.{read-back}
 use Rattle.survey.proofs.bytes.signed_four.Statement.{statement}
 use Rattle.survey.proofs.bytes.signed_four.Tie as tie
 
-four-requires : tie.Need-four-requires
-four-requires c κs = omega arith
-
-signed-of-requires : tie.Need-signed-of-requires
-signed-of-requires c κs = tt
-
 returns : tie.Need-returns
 returns c = read-back _ (c .signed-of .ok) ∙ c .signed-of .ensures ∙ ap signed (c .before .four .ensures)
 
 pub signed-four-spec : {M : Type 1} → statement M
-signed-four-spec = tie.close (tie.spec four-requires signed-of-requires returns)
+signed-four-spec =
+    tie.close
+    (tie.spec
+    (λ c κs. omega arith)
+    (λ c κs. tt)
+    returns)

@@ -28,15 +28,6 @@ module _ (n : ℕ) (h : 2 ^ 31 ≤ n) (f : n < 2 ^ 32) where
   upper-half : word (negsuc 0 -ℤ toZ w32 (4294967295 - n)) ≡ signed n
   upper-half = toZ-ofZ fits ∙ turned ∙ rw (le-ltb n 2147483648 h)
 
-cast-result : tie.Need-cast-result
-cast-result c = omega arith
-
-sub-result : tie.Need-sub-result
-sub-result c = omega arith
-
-cast-result-2 : tie.Need-cast-result-2
-cast-result-2 c = omega arith
-
 sub-result-2 : tie.Need-sub-result-2
 sub-result-2 c = fits (c .before .args .bits) (omega arith) (omega arith)
 
@@ -49,4 +40,10 @@ returns-2 c = upper-half (c .before .args .bits) (omega arith) (omega arith)
 pub signed-of-spec : {M : Type 1} → statement M
 signed-of-spec =
     tie.close
-    (tie.spec cast-result sub-result cast-result-2 sub-result-2 returns returns-2)
+    (tie.spec
+    (λ c. omega arith)
+    (λ c. omega arith)
+    (λ c. omega arith)
+    sub-result-2
+    returns
+    returns-2)

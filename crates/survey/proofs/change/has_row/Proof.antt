@@ -48,14 +48,8 @@ returns c =
     let s = at .before .args in
     sym (none-left (s .line) (s .t1) (s .closed) (at .loop .i) (omega (arith, c .if1 .taken))) ∙ at .loop .inv .1
 
-mul-row : tie.Need-mul-row Inv-loop μ-loop
-mul-row c = omega arith
-
 array-copy-out-row : tie.Need-array-copy-out-row Inv-loop μ-loop
 array-copy-out-row c = c .before .loop-test .taken
-
-is-line-requires : tie.Need-is-line-requires Inv-loop μ-loop
-is-line-requires c κs = tt
 
 -- a turn: the answer is that of the rows after i, unless the one at i is the line's
 turn : (c : tie.After-is-line Inv-loop μ-loop) →
@@ -75,12 +69,6 @@ turn c =
 returns-2 : tie.Need-returns-2 Inv-loop μ-loop
 returns-2 c = rw (c .if2 .taken) at (turn (c .before))
 
-add-i : tie.Need-add-i Inv-loop μ-loop
-add-i c = omega arith
-
-loop-less : tie.Need-loop-less Inv-loop μ-loop
-loop-less c = omega arith
-
 loop-again : tie.Need-loop-again Inv-loop μ-loop
 loop-again c = (omega arith, rw (c .if2 .left) at (turn (c .before)))
 
@@ -97,11 +85,11 @@ has-row-spec =
     μ-loop
     loop-holds
     returns
-    mul-row
+    (λ c. omega arith)
     array-copy-out-row
-    is-line-requires
+    (λ c κs. tt)
     returns-2
-    add-i
-    loop-less
+    (λ c. omega arith)
+    (λ c. omega arith)
     loop-again
     returns-3)

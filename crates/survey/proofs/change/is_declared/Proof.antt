@@ -3,11 +3,9 @@ use Rattle.survey.proofs.Check.{parts}
 use Rattle.survey.proofs.change.is_declared.Statement.{statement}
 use Rattle.survey.proofs.change.is_declared.Tie as tie
 
-returns : tie.Need-returns
-returns c = search parts
-
-returns-2 : tie.Need-returns-2
-returns-2 c = search parts
-
 pub is-declared-spec : {M : Type 1} → statement M
-is-declared-spec = tie.close (tie.spec returns returns-2)
+is-declared-spec =
+    tie.close
+    (tie.spec
+    (λ c. search parts)
+    (λ c. search parts))

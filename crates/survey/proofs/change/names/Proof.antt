@@ -11,12 +11,6 @@ use borrow.Author.Needs.{needs}
 use Rattle.survey.proofs.change.names.Statement.{statement}
 use Rattle.survey.proofs.change.names.Tie as tie
 
-enum-known-command : tie.Need-enum-known-command
-enum-known-command c = search needs
-
-enum-known-command-2 : tie.Need-enum-known-command-2
-enum-known-command-2 c = search needs
-
 returns : tie.Need-returns
 returns c = cc
 
@@ -37,4 +31,11 @@ returns-3 : tie.Need-returns-3
 returns-3 c = others (c .before .args .command) (c .match .keys3)
 
 pub names-spec : {M : Type 1} → statement M
-names-spec = tie.close (tie.spec enum-known-command enum-known-command-2 returns returns-2 returns-3)
+names-spec =
+    tie.close
+    (tie.spec
+    (λ c. search needs)
+    (λ c. search needs)
+    returns
+    returns-2
+    returns-3)

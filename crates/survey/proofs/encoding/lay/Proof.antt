@@ -17,12 +17,6 @@ abbrev μ-loop : tie.MeasureT-loop
 loop-holds : tie.Need-loop-holds Inv-loop μ-loop
 loop-holds c = (omega arith, paste-zero (c .args .buffer .now) (c .args .at) (c .args .t3))
 
-array-read-buffer : tie.Need-array-read-buffer Inv-loop μ-loop
-array-read-buffer c = omega arith
-
-add-buffer : tie.Need-add-buffer Inv-loop μ-loop
-add-buffer c = omega arith
-
 -- the buffer is as long as it was
 as-long : (c : tie.At-loop Inv-loop μ-loop) → length (c .loop .buffer) ≡ length (c .before .args .buffer .now)
 as-long c =
@@ -31,12 +25,6 @@ as-long c =
 
 slice-write-buffer : tie.Need-slice-write-buffer Inv-loop μ-loop
 slice-write-buffer c = omega (arith, as-long (c .before))
-
-add-i : tie.Need-add-i Inv-loop μ-loop
-add-i c = omega arith
-
-loop-less : tie.Need-loop-less Inv-loop μ-loop
-loop-less c = omega arith
 
 loop-again : tie.Need-loop-again Inv-loop μ-loop
 loop-again c =
@@ -61,11 +49,11 @@ lay-spec =
     Inv-loop
     μ-loop
     loop-holds
-    array-read-buffer
-    add-buffer
+    (λ c. omega arith)
+    (λ c. omega arith)
     slice-write-buffer
-    add-i
-    loop-less
+    (λ c. omega arith)
+    (λ c. omega arith)
     loop-again
     same-length
     returns)

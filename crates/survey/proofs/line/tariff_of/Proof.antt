@@ -14,11 +14,9 @@ handed : {r : Report ℕ} (s : Species) (cm tenths : ℕ) → mag (s .c1) < 2 ^ 
     → r ≡ singleTariff (word (s .c1)) (word (s .c2)) (word (s .c3)) (word (s .c4)) cm tenths → r ≡ tariffOf s cm tenths
 handed s cm tenths f1 f2 f3 f4 e = simp (read-back (s .c1) f1, read-back (s .c2) f2, read-back (s .c3) f3, read-back (s .c4) f4) at e
 
-single-tariff-requires : tie.Need-single-tariff-requires
-single-tariff-requires c κs = tt
-
-returns : tie.Need-returns
-returns c = search handed
-
 pub tariff-of-spec : {M : Type 1} → statement M
-tariff-of-spec = tie.close (tie.spec single-tariff-requires returns)
+tariff-of-spec =
+    tie.close
+    (tie.spec
+    (λ c κs. tt)
+    (λ c. search handed))

@@ -15,9 +15,6 @@ after at test s = cond test (stopped 5 at) (ended s)
 by-test : {test this : Bool} (at : ℕ) → test ≡ this → after at this ≡ after at test
 by-test at e = ap (after at) (sym e)
 
-stop-requires : tie.Need-stop-requires
-stop-requires c κs = tt
-
 returns : tie.Need-returns
 returns c = c .stop .ensures ∙ by-test _ (lt-ltb _ _ (c .before .if1 .taken))
 
@@ -25,4 +22,9 @@ returns-2 : tie.Need-returns-2
 returns-2 c = by-test _ (le-ltb _ _ (c .if1 .left))
 
 pub end-spec : {M : Type 1} → statement M
-end-spec = tie.close (tie.spec stop-requires returns returns-2)
+end-spec =
+    tie.close
+    (tie.spec
+    (λ c κs. tt)
+    returns
+    returns-2)

@@ -45,63 +45,21 @@ others (Command.Height cm tenths) next l one = absurd (miss (0 ∷ 1 ∷ 2 ∷ 5
 others Command.Close next l one = refl
 others Command.End next l one = refl
 
-read-of-line-requires : tie.Need-read-of-line-requires
-read-of-line-requires c κs = tt
-
-enum-known-command : tie.Need-enum-known-command
-enum-known-command c = search needs
-
-enum-known-command-2 : tie.Need-enum-known-command-2
-enum-known-command-2 c = search needs
-
-measured-requires : tie.Need-measured-requires
-measured-requires c κs = tt
-
-noted-to-requires : tie.Need-noted-to-requires
-noted-to-requires c κs = tt
-
-enum-known-command-3 : tie.Need-enum-known-command-3
-enum-known-command-3 c = search needs
-
-height-requires : tie.Need-height-requires
-height-requires c κs = tt
-
-noted-to-requires-2 : tie.Need-noted-to-requires-2
-noted-to-requires-2 c κs = tt
-
-enum-known-why : tie.Need-enum-known-why
-enum-known-why c = search needs
-
-returns : tie.Need-returns
-unfolding note
-returns c = search (was-read, by-case, by-line)
-
-returns-2 : tie.Need-returns-2
-unfolding note
-returns-2 c = search (was-read, by-case, by-line)
-
-returns-3 : tie.Need-returns-3
-unfolding note
-returns-3 c = search (was-read, others)
-
-returns-4 : tie.Need-returns-4
-unfolding note
-returns-4 c = search not-read
-
 pub note-spec : {M : Type 1} → statement M
+unfolding note
 note-spec =
     tie.close
     (tie.spec
-    read-of-line-requires
-    enum-known-command
-    enum-known-command-2
-    measured-requires
-    noted-to-requires
-    enum-known-command-3
-    height-requires
-    noted-to-requires-2
-    enum-known-why
-    returns
-    returns-2
-    returns-3
-    returns-4)
+    (λ c κs. tt)
+    (λ c. search needs)
+    (λ c. search needs)
+    (λ c κs. tt)
+    (λ c κs. tt)
+    (λ c. search needs)
+    (λ c κs. tt)
+    (λ c κs. tt)
+    (λ c. search needs)
+    (λ c. search (was-read, by-case, by-line))
+    (λ c. search (was-read, by-case, by-line))
+    (λ c. search (was-read, others))
+    (λ c. search not-read))

@@ -5,12 +5,6 @@ use Rattle.survey.specs.Apply.{noted}
 use Rattle.survey.proofs.playing.noted_to.Statement.{statement}
 use Rattle.survey.proofs.playing.noted_to.Tie as tie
 
-enum-known-answer : tie.Need-enum-known-answer
-enum-known-answer c = c .match .keys1
-
-enum-known-answer-2 : tie.Need-enum-known-answer-2
-enum-known-answer-2 c = c .match .keys2
-
 returns : tie.Need-returns
 returns c = follows _ _ (ap noted (c .before .answer .given .1)) refl
 
@@ -18,4 +12,10 @@ returns-2 : tie.Need-returns-2
 returns-2 c = stops _ _ (ap noted (c .before .answer2 .given .1))
 
 pub noted-to-spec : {M : Type 1} → statement M
-noted-to-spec = tie.close (tie.spec enum-known-answer enum-known-answer-2 returns returns-2)
+noted-to-spec =
+    tie.close
+    (tie.spec
+    (λ c. c .match .keys1)
+    (λ c. c .match .keys2)
+    returns
+    returns-2)

@@ -108,9 +108,6 @@ module _ (d : tie.After-decide Inv-loop μ-loop Inv-lines μ-lines) {change : Ch
 halted : {f g : Survey → Played} → f ≡ g → (s : Survey) → f s ≡ g s
 halted e s = ap (λ (f : Survey → Played). f s) e
 
-new-requires : tie.Need-new-requires Inv-loop μ-loop Inv-lines μ-lines
-new-requires c κs = tt
-
 lines-holds : tie.Need-lines-holds Inv-loop μ-loop Inv-lines μ-lines
 unfolding fresh play
 lines-holds c =
@@ -119,12 +116,6 @@ lines-holds c =
 
 loop-holds : tie.Need-loop-holds Inv-loop μ-loop Inv-lines μ-lines
 loop-holds c = (omega arith, c .before .lines .inv .0, c .before .lines .inv .2)
-
-note-requires : tie.Need-note-requires Inv-loop μ-loop Inv-lines μ-lines
-note-requires c κs = tt
-
-enum-known-after : tie.Need-enum-known-after Inv-loop μ-loop Inv-lines μ-lines
-enum-known-after c = c .match .keys1
 
 loop-less : tie.Need-loop-less Inv-loop μ-loop Inv-lines μ-lines
 loop-less c = omega (arith, noted-on (c .before) .moves, noted-on (c .before) .inside)
@@ -135,71 +126,14 @@ loop-again c =
     let at = c .before .before .before .before .before .loop in
     (omega (arith, n .moves, at .inv .0), n .inside, sym (n .plays) ∙ at .inv .2)
 
-enum-told : tie.Need-enum-told Inv-loop μ-loop Inv-lines μ-lines
-enum-told c = c .match .keys2
-
-enum-known-why : tie.Need-enum-known-why Inv-loop μ-loop Inv-lines μ-lines
-enum-known-why c = c .match .keys3
-
-stop-requires : tie.Need-stop-requires Inv-loop μ-loop Inv-lines μ-lines
-stop-requires c κs = tt
-
-read-requires : tie.Need-read-requires Inv-loop μ-loop Inv-lines μ-lines
-read-requires c κs = tt
-
-enum-known-why-2 : tie.Need-enum-known-why-2 Inv-loop μ-loop Inv-lines μ-lines
-enum-known-why-2 c = c .match2 .keys1
-
-stop-requires-2 : tie.Need-stop-requires-2 Inv-loop μ-loop Inv-lines μ-lines
-stop-requires-2 c κs = tt
-
-enum-known-command : tie.Need-enum-known-command Inv-loop μ-loop Inv-lines μ-lines
-enum-known-command c = c .match2 .keys2
-
-names-requires : tie.Need-names-requires Inv-loop μ-loop Inv-lines μ-lines
-names-requires c κs = tt
-
-cast-i : tie.Need-cast-i Inv-loop μ-loop Inv-lines μ-lines
-cast-i c = omega arith
-
-mul-there : tie.Need-mul-there Inv-loop μ-loop Inv-lines μ-lines
-mul-there c = search needs
-
-element-copy-out-there : tie.Need-element-copy-out-there Inv-loop μ-loop Inv-lines μ-lines
-element-copy-out-there c = search needs
-
-has-row-requires : tie.Need-has-row-requires Inv-loop μ-loop Inv-lines μ-lines
-has-row-requires c κs = tt
-
-decide-requires : tie.Need-decide-requires Inv-loop μ-loop Inv-lines μ-lines
-decide-requires c κs = tt
-
-enum-known-id : tie.Need-enum-known-id Inv-loop μ-loop Inv-lines μ-lines
-enum-known-id c = c .match3 .keys1
-
-cast-i-2 : tie.Need-cast-i-2 Inv-loop μ-loop Inv-lines μ-lines
-cast-i-2 c = omega arith
-
 mul-species : tie.Need-mul-species Inv-loop μ-loop Inv-lines μ-lines
 mul-species c = omega (arith, species-place _ (made (c .before .before .before) .place) (c .before .id .given .1))
 
 element-set-from-species : tie.Need-element-set-from-species Inv-loop μ-loop Inv-lines μ-lines
 element-set-from-species c = species-place _ (made (c .before .before .before) .place) (c .before .id .given .1)
 
-enum-known-cm : tie.Need-enum-known-cm Inv-loop μ-loop Inv-lines μ-lines
-enum-known-cm c = c .match3 .keys2
-
-cast-i-3 : tie.Need-cast-i-3 Inv-loop μ-loop Inv-lines μ-lines
-cast-i-3 c = omega arith
-
 element-write-survey : tie.Need-element-write-survey Inv-loop μ-loop Inv-lines μ-lines
 element-write-survey c = factor-place _ (made (c .before .before .before) .place) (c .before .cm .given .1)
-
-enum-known-after-2 : tie.Need-enum-known-after-2 Inv-loop μ-loop Inv-lines μ-lines
-enum-known-after-2 c = c .match3 .keys3
-
-enum-known-row : tie.Need-enum-known-row Inv-loop μ-loop Inv-lines μ-lines
-enum-known-row c = c .match3 .keys4
 
 mul-row : tie.Need-mul-row Inv-loop μ-loop Inv-lines μ-lines
 mul-row c = omega (arith, row-place _ (made (c .before .before .before) .place) (c .before .row .given .1))
@@ -209,18 +143,6 @@ element-set-from-row c = row-place _ (made (c .before .before .before) .place) (
 
 add-survey : tie.Need-add-survey Inv-loop μ-loop Inv-lines μ-lines
 add-survey c = omega (arith, row-place _ (made (c .before .before .before) .place) (c .before .row .given .1))
-
-enum-told-2 : tie.Need-enum-told-2 Inv-loop μ-loop Inv-lines μ-lines
-enum-told-2 c = c .match3 .keys5
-
-end-requires : tie.Need-end-requires Inv-loop μ-loop Inv-lines μ-lines
-end-requires c κs = tt
-
-enum-known-why-3 : tie.Need-enum-known-why-3 Inv-loop μ-loop Inv-lines μ-lines
-enum-known-why-3 c = c .match3 .keys6
-
-stop-requires-3 : tie.Need-stop-requires-3 Inv-loop μ-loop Inv-lines μ-lines
-stop-requires-3 c κs = tt
 
 lines-less : tie.Need-lines-less Inv-loop μ-loop Inv-lines μ-lines
 lines-less c = less (c .before .before .before) (c .before .id .given .1) refl
@@ -285,42 +207,42 @@ play-spec =
     μ-loop
     Inv-lines
     μ-lines
-    new-requires
+    (λ c κs. tt)
     lines-holds
     loop-holds
-    note-requires
-    enum-known-after
+    (λ c κs. tt)
+    (λ c. c .match .keys1)
     loop-less
     loop-again
-    enum-told
-    enum-known-why
-    stop-requires
-    read-requires
-    enum-known-why-2
-    stop-requires-2
-    enum-known-command
-    names-requires
-    cast-i
-    mul-there
-    element-copy-out-there
-    has-row-requires
-    decide-requires
-    enum-known-id
-    cast-i-2
+    (λ c. c .match .keys2)
+    (λ c. c .match .keys3)
+    (λ c κs. tt)
+    (λ c κs. tt)
+    (λ c. c .match2 .keys1)
+    (λ c κs. tt)
+    (λ c. c .match2 .keys2)
+    (λ c κs. tt)
+    (λ c. omega arith)
+    (λ c. search needs)
+    (λ c. search needs)
+    (λ c κs. tt)
+    (λ c κs. tt)
+    (λ c. c .match3 .keys1)
+    (λ c. omega arith)
     mul-species
     element-set-from-species
-    enum-known-cm
-    cast-i-3
+    (λ c. c .match3 .keys2)
+    (λ c. omega arith)
     element-write-survey
-    enum-known-after-2
-    enum-known-row
+    (λ c. c .match3 .keys3)
+    (λ c. c .match3 .keys4)
     mul-row
     element-set-from-row
     add-survey
-    enum-told-2
-    end-requires
-    enum-known-why-3
-    stop-requires-3
+    (λ c. c .match3 .keys5)
+    (λ c κs. tt)
+    (λ c. c .match3 .keys6)
+    (λ c κs. tt)
     lines-less
     lines-again
     lines-less-2

@@ -29,12 +29,6 @@ abbrev μ-loop : tie.MeasureT-loop
 loop-holds : tie.Need-loop-holds Inv-loop μ-loop
 loop-holds c = (omega arith, rw zero-add)
 
-command-at-requires : tie.Need-command-at-requires Inv-loop μ-loop
-command-at-requires c κs = tt
-
-enum-known-reading : tie.Need-enum-known-reading Inv-loop μ-loop
-enum-known-reading c = c .match .keys1
-
 returns : tie.Need-returns Inv-loop μ-loop
 returns c =
     let turn = c .before .before .before in
@@ -83,4 +77,14 @@ loop-again c =
 pub read-through-spec : {M : Type 1} → statement M
 read-through-spec =
     tie.close
-    (tie.spec Inv-loop μ-loop loop-holds command-at-requires enum-known-reading returns enum-told add-commands loop-less loop-again)
+    (tie.spec
+    Inv-loop
+    μ-loop
+    loop-holds
+    (λ c κs. tt)
+    (λ c. c .match .keys1)
+    returns
+    enum-told
+    add-commands
+    loop-less
+    loop-again)

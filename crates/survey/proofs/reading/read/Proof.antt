@@ -40,27 +40,6 @@ module _ (s : List ℕ) (at : ℕ) where
 returns : tie.Need-returns
 returns c = again _ _ (search) (search at-end)
 
-add-from : tie.Need-add-from
-add-from c = omega arith
-
-shared-slice-read-match : tie.Need-shared-slice-read-match
-shared-slice-read-match c = omega arith
-
-read-species-requires : tie.Need-read-species-requires
-read-species-requires c κs = omega arith
-
-read-factor-requires : tie.Need-read-factor-requires
-read-factor-requires c κs = omega arith
-
-read-open-requires : tie.Need-read-open-requires
-read-open-requires c κs = omega arith
-
-read-measured-requires : tie.Need-read-measured-requires
-read-measured-requires c κs = omega arith
-
-read-height-requires : tie.Need-read-height-requires
-read-height-requires c κs = omega arith
-
 returns-2 : tie.Need-returns-2
 unfolding commandFrom
 returns-2 c = again _ _ (search) (search chosen)
@@ -103,13 +82,13 @@ read-spec =
     tie.close
     (tie.spec
     returns
-    add-from
-    shared-slice-read-match
-    read-species-requires
-    read-factor-requires
-    read-open-requires
-    read-measured-requires
-    read-height-requires
+    (λ c. omega arith)
+    (λ c. omega arith)
+    (λ c κs. omega arith)
+    (λ c κs. omega arith)
+    (λ c κs. omega arith)
+    (λ c κs. omega arith)
+    (λ c κs. omega arith)
     returns-2
     returns-3
     returns-4

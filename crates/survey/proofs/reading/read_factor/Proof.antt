@@ -5,24 +5,9 @@ use Rattle.survey.proofs.Operands.{cut-short, complete}
 use Rattle.survey.proofs.reading.read_factor.Statement.{statement}
 use Rattle.survey.proofs.reading.read_factor.Tie as tie
 
-sub-if1 : tie.Need-sub-if1
-sub-if1 c = omega arith
-
 returns : tie.Need-returns
 unfolding factorFrom
 returns c = let start = c .before in cut-short (start .args .book .now) (start .args .from) 2 (start .pre) _ (c .if1 .taken)
-
-shared-slice-read-t9 : tie.Need-shared-slice-read-t9
-shared-slice-read-t9 c = omega arith
-
-add-t4 : tie.Need-add-t4
-add-t4 c = omega arith
-
-shared-slice-read-t11 : tie.Need-shared-slice-read-t11
-shared-slice-read-t11 c = omega arith
-
-add-t5 : tie.Need-add-t5
-add-t5 c = omega arith
 
 returns-2 : tie.Need-returns-2
 unfolding factorFrom
@@ -33,4 +18,11 @@ returns-2 c =
 pub read-factor-spec : {M : Type 1} → statement M
 read-factor-spec =
     tie.close
-    (tie.spec sub-if1 returns shared-slice-read-t9 add-t4 shared-slice-read-t11 add-t5 returns-2)
+    (tie.spec
+    (λ c. omega arith)
+    returns
+    (λ c. omega arith)
+    (λ c. omega arith)
+    (λ c. omega arith)
+    (λ c. omega arith)
+    returns-2)

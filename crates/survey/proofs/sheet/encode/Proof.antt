@@ -5,21 +5,6 @@ use Rattle.survey.proofs.Growth.{holds-then}
 use Rattle.survey.proofs.sheet.encode.Statement.{statement}
 use Rattle.survey.proofs.sheet.encode.Tie as tie
 
-encode-bytes-requires : tie.Need-encode-bytes-requires
-encode-bytes-requires c κs = tt
-
-two-requires : tie.Need-two-requires
-two-requires c κs = omega arith
-
-four-requires : tie.Need-four-requires
-four-requires c κs = omega arith
-
-eight-requires : tie.Need-eight-requires
-eight-requires c κs = omega arith
-
-eight-requires-2 : tie.Need-eight-requires-2
-eight-requires-2 c κs = omega arith
-
 returns : tie.Need-returns
 unfolding rowBytes
 returns c =
@@ -33,4 +18,10 @@ returns c =
 pub encode-spec : {M : Type 1} → statement M
 encode-spec =
     tie.close
-    (tie.spec encode-bytes-requires two-requires four-requires eight-requires eight-requires-2 returns)
+    (tie.spec
+    (λ c κs. tt)
+    (λ c κs. omega arith)
+    (λ c κs. omega arith)
+    (λ c κs. omega arith)
+    (λ c κs. omega arith)
+    returns)

@@ -5,15 +5,6 @@ use Rattle.survey.proofs.Growth.{holds-then}
 use Rattle.survey.proofs.sheet.encode_bytes.Statement.{statement}
 use Rattle.survey.proofs.sheet.encode_bytes.Tie as tie
 
-new-requires : tie.Need-new-requires
-new-requires c κs = tt
-
-one-requires : tie.Need-one-requires
-one-requires c κs = omega arith
-
-one-requires-2 : tie.Need-one-requires-2
-one-requires-2 c κs = omega arith
-
 returns : tie.Need-returns
 returns c =
     let start = c .before .before .before in
@@ -24,4 +15,10 @@ returns c =
     ) (holds-then _ (holds-then _ (c .before .before .new .ensures) (c .before .one .ensures)) (c .one2 .ensures))
 
 pub encode-bytes-spec : {M : Type 1} → statement M
-encode-bytes-spec = tie.close (tie.spec new-requires one-requires one-requires-2 returns)
+encode-bytes-spec =
+    tie.close
+    (tie.spec
+    (λ c κs. tt)
+    (λ c κs. omega arith)
+    (λ c κs. omega arith)
+    returns)

@@ -16,12 +16,6 @@ returns c =
     let a = c .before .before .args in
     stop-unless _ (lt-leb (rowLength * a .i + rowLength) (length (a .sheet .now)) (omega arith))
 
-mul-row-from : tie.Need-mul-row-from
-mul-row-from c = omega arith
-
-row-from-requires : tie.Need-row-from-requires
-row-from-requires c κs = omega arith
-
 returns-2 : tie.Need-returns-2
 unfolding findRow
 returns-2 c =
@@ -29,4 +23,10 @@ returns-2 c =
     past-unless _ 1 (le-leb (rowLength * a .i + rowLength) (length (a .sheet .now)) (omega arith)) (ap gives (c .row-from .ensures))
 
 pub find-row-spec : {M : Type 1} → statement M
-find-row-spec = tie.close (tie.spec returns mul-row-from row-from-requires returns-2)
+find-row-spec =
+    tie.close
+    (tie.spec
+    returns
+    (λ c. omega arith)
+    (λ c κs. omega arith)
+    returns-2)

@@ -25,15 +25,6 @@ loop-holds : tie.Need-loop-holds Inv-loop μ-loop
 unfolding laidAt sheetBytes
 loop-holds c = (omega arith, refl)
 
-mul-encode : tie.Need-mul-encode Inv-loop μ-loop
-mul-encode c = omega arith
-
-array-copy-out-encode : tie.Need-array-copy-out-encode Inv-loop μ-loop
-array-copy-out-encode c = omega arith
-
-encode-requires : tie.Need-encode-requires Inv-loop μ-loop
-encode-requires c κs = tt
-
 -- the sheet is as long as it was
 as-long : (c : tie.At-loop Inv-loop μ-loop) → length (c .loop .sheet) ≡ length (c .before .before .args .sheet .now)
 as-long c =
@@ -42,17 +33,8 @@ as-long c =
     let rows : c .loop .i ≤ length (a .t2) = omega arith in
     ap length (c .loop .inv .1) ∙ laid-length (a .sheet .now) (take (c .loop .i) (a .t2)) (omega (arith, length-take-le (c .loop .i) (a .t2) rows))
 
-mul-lay : tie.Need-mul-lay Inv-loop μ-loop
-mul-lay c = omega arith
-
 lay-requires : tie.Need-lay-requires Inv-loop μ-loop
 lay-requires c κs = (omega arith, omega (arith, as-long (c .before .before .before .before .before)))
-
-add-i : tie.Need-add-i Inv-loop μ-loop
-add-i c = omega arith
-
-loop-less : tie.Need-loop-less Inv-loop μ-loop
-loop-less c = omega arith
 
 -- the bytes that hold a row are laid as the row's bytes
 row-laid : (b : List ℕ) (at : ℕ) (r : Row) (e : Encoded) → (held e ≡ rowBytes r) × (e .length ≡ rowLength)
@@ -87,13 +69,13 @@ lay-rows-spec =
     Inv-loop
     μ-loop
     loop-holds
-    mul-encode
-    array-copy-out-encode
-    encode-requires
-    mul-lay
+    (λ c. omega arith)
+    (λ c. omega arith)
+    (λ c κs. tt)
+    (λ c. omega arith)
     lay-requires
-    add-i
-    loop-less
+    (λ c. omega arith)
+    (λ c. omega arith)
     loop-again
     same-length
     returns)

@@ -29,12 +29,6 @@ loop-holds : tie.Need-loop-holds Inv-loop μ-loop
 unfolding sumOf
 loop-holds c = (omega arith, refl, refl, refl)
 
-mul-row : tie.Need-mul-row Inv-loop μ-loop
-mul-row c = omega arith
-
-array-copy-out-row : tie.Need-array-copy-out-row Inv-loop μ-loop
-array-copy-out-row c = omega arith
-
 -- the row of a turn
 abbrev row-of : tie.In-loop Inv-loop μ-loop → Row
 row-of c =
@@ -83,12 +77,6 @@ add-high c =
     let t = c .before .before .before .before .before in
     omega (arith, grown t highOf (t .before .loop .inv .3), bounded t .2)
 
-add-i : tie.Need-add-i Inv-loop μ-loop
-add-i c = omega arith
-
-loop-less : tie.Need-loop-less Inv-loop μ-loop
-loop-less c = omega arith
-
 loop-again : tie.Need-loop-again Inv-loop μ-loop
 loop-again c =
     let t = c .before .before .before .before .before in
@@ -111,13 +99,13 @@ add-spec =
     Inv-loop
     μ-loop
     loop-holds
-    mul-row
-    array-copy-out-row
+    (λ c. omega arith)
+    (λ c. omega arith)
     cast-trees
     add-trees
     add-low
     add-high
-    add-i
-    loop-less
+    (λ c. omega arith)
+    (λ c. omega arith)
     loop-again
     returns)

@@ -53,29 +53,8 @@ module _ (all : List Row) (closed : ℕ) (small : RowsSmall (take closed all)) (
         let project-is = figure-is (ap carbon (sym is) ∙ figures) in
         cc
 
-add-requires : tie.Need-add-requires
-add-requires c κs = search needs
-
-project-requires : tie.Need-project-requires
-project-requires c κs = tt
-
-enum-known-carbon : tie.Need-enum-known-carbon
-enum-known-carbon c = search needs
-
-enum-known-why : tie.Need-enum-known-why
-enum-known-why c = search needs
-
-of-figure-requires : tie.Need-of-figure-requires
-of-figure-requires c κs = tt
-
 returns : tie.Need-returns
 returns c = absurd (search not-refused)
-
-lay-rows-requires : tie.Need-lay-rows-requires
-lay-rows-requires c κs = search needs
-
-same-length : tie.Need-same-length
-same-length c = search as-long
 
 returns-2 : tie.Need-returns-2
 returns-2 c = (search totals, search)
@@ -84,12 +63,12 @@ pub lay-total-spec : {M : Type 1} → statement M
 lay-total-spec =
     tie.close
     (tie.spec
-    add-requires
-    project-requires
-    enum-known-carbon
-    enum-known-why
-    of-figure-requires
+    (λ c κs. search needs)
+    (λ c κs. tt)
+    (λ c. search needs)
+    (λ c. search needs)
+    (λ c κs. tt)
     returns
-    lay-rows-requires
-    same-length
+    (λ c κs. search needs)
+    (λ c. search as-long)
     returns-2)

@@ -80,23 +80,11 @@ module _ (book : List ℕ) (p : Code.Played) (promise : played p ≡ play book) 
 returns : tie.Need-returns
 returns c = no-room _ _ (search)
 
-play-requires : tie.Need-play-requires
-play-requires c κs = tt
-
-enum-known-outcome : tie.Need-enum-known-outcome
-enum-known-outcome c = search needs
-
-enum-told : tie.Need-enum-told
-enum-told c = search needs
-
 lay-total-requires : tie.Need-lay-total-requires
 lay-total-requires c κs = (search at-end-few, search at-end-small, search)
 
 returns-2 : tie.Need-returns-2
 returns-2 c = promised _ _ (search refusal-answer) (search refusal-keeps)
-
-same-length : tie.Need-same-length
-same-length c = search end-as-long
 
 returns-3 : tie.Need-returns-3
 returns-3 c = promised _ _ (search end-answer) (search end-lays)
@@ -106,10 +94,10 @@ total-spec =
     tie.close
     (tie.spec
     returns
-    play-requires
-    enum-known-outcome
-    enum-told
+    (λ c κs. tt)
+    (λ c. search needs)
+    (λ c. search needs)
     lay-total-requires
     returns-2
-    same-length
+    (λ c. search end-as-long)
     returns-3)

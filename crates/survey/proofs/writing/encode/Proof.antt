@@ -24,78 +24,6 @@ module _ {k d : Command} (is : k ≡ d) where
   fits-as : Fits d → Fits k
   fits-as = subst Fits (sym is)
 
-enum-known-command : tie.Need-enum-known-command
-enum-known-command c = search needs
-
-encode-species-requires : tie.Need-encode-species-requires
-encode-species-requires c κs = tt
-
-enum-known-command-2 : tie.Need-enum-known-command-2
-enum-known-command-2 c = search needs
-
-new-requires : tie.Need-new-requires
-new-requires c κs = tt
-
-one-requires : tie.Need-one-requires
-one-requires c κs = omega arith
-
-one-requires-2 : tie.Need-one-requires-2
-one-requires-2 c κs = omega arith
-
-enum-known-command-3 : tie.Need-enum-known-command-3
-enum-known-command-3 c = search needs
-
-new-requires-2 : tie.Need-new-requires-2
-new-requires-2 c κs = tt
-
-one-requires-3 : tie.Need-one-requires-3
-one-requires-3 c κs = omega arith
-
-one-requires-4 : tie.Need-one-requires-4
-one-requires-4 c κs = omega arith
-
-four-requires : tie.Need-four-requires
-four-requires c κs = omega arith
-
-four-requires-2 : tie.Need-four-requires-2
-four-requires-2 c κs = omega arith
-
-enum-known-command-4 : tie.Need-enum-known-command-4
-enum-known-command-4 c = search needs
-
-new-requires-3 : tie.Need-new-requires-3
-new-requires-3 c κs = tt
-
-one-requires-5 : tie.Need-one-requires-5
-one-requires-5 c κs = omega arith
-
-two-requires : tie.Need-two-requires
-two-requires c κs = omega arith
-
-enum-known-command-5 : tie.Need-enum-known-command-5
-enum-known-command-5 c = search needs
-
-new-requires-4 : tie.Need-new-requires-4
-new-requires-4 c κs = tt
-
-one-requires-6 : tie.Need-one-requires-6
-one-requires-6 c κs = omega arith
-
-two-requires-2 : tie.Need-two-requires-2
-two-requires-2 c κs = omega arith
-
-enum-told : tie.Need-enum-told
-enum-told c = search needs
-
-new-requires-5 : tie.Need-new-requires-5
-new-requires-5 c κs = tt
-
-enum-told-2 : tie.Need-enum-told-2
-enum-told-2 c = search needs
-
-new-requires-6 : tie.Need-new-requires-6
-new-requires-6 c κs = tt
-
 returns : tie.Need-returns
 returns c = (search (bytes-as, steps) depth 12, omega (arith, length-as), search (fits-as, mag-fits))
 
@@ -121,30 +49,30 @@ pub encode-spec : {M : Type 1} → statement M
 encode-spec =
     tie.close
     (tie.spec
-    enum-known-command
-    encode-species-requires
-    enum-known-command-2
-    new-requires
-    one-requires
-    one-requires-2
-    enum-known-command-3
-    new-requires-2
-    one-requires-3
-    one-requires-4
-    four-requires
-    four-requires-2
-    enum-known-command-4
-    new-requires-3
-    one-requires-5
-    two-requires
-    enum-known-command-5
-    new-requires-4
-    one-requires-6
-    two-requires-2
-    enum-told
-    new-requires-5
-    enum-told-2
-    new-requires-6
+    (λ c. search needs)
+    (λ c κs. tt)
+    (λ c. search needs)
+    (λ c κs. tt)
+    (λ c κs. omega arith)
+    (λ c κs. omega arith)
+    (λ c. search needs)
+    (λ c κs. tt)
+    (λ c κs. omega arith)
+    (λ c κs. omega arith)
+    (λ c κs. omega arith)
+    (λ c κs. omega arith)
+    (λ c. search needs)
+    (λ c κs. tt)
+    (λ c κs. omega arith)
+    (λ c κs. omega arith)
+    (λ c. search needs)
+    (λ c κs. tt)
+    (λ c κs. omega arith)
+    (λ c κs. omega arith)
+    (λ c. search needs)
+    (λ c κs. tt)
+    (λ c. search needs)
+    (λ c κs. tt)
     returns
     returns-2
     returns-3

@@ -19,21 +19,6 @@ constant z = bytes 4 (unsigned z)
 bits-are : (z : ℤ) {x : ℕ} → mag z < 2 ^ 31 → x ≡ unsigned (word z) → x ≡ unsigned z
 bits-are z small is = is ∙ ap unsigned (read-back z small)
 
-new-requires : tie.Need-new-requires
-new-requires c κs = tt
-
-one-requires : tie.Need-one-requires
-one-requires c κs = omega arith
-
-one-requires-2 : tie.Need-one-requires-2
-one-requires-2 c κs = omega arith
-
-one-requires-3 : tie.Need-one-requires-3
-one-requires-3 c κs = omega arith
-
-one-requires-4 : tie.Need-one-requires-4
-one-requires-4 c κs = omega arith
-
 -- the bytes held after the operands of one byte, and after each constant
 abbrev operands : tie.Start → List ℕ
 operands c = 1 ∷ c .args .id ∷ c .args .s .crown ∷ c .args .s .root ∷ c .args .s .gravity ∷ []
@@ -84,26 +69,14 @@ after-c3 c =
     holds-then _ (after-c2 (c .before .before .before))
     (rw (bits-are (start-c3 c .args .s .c3) small (c .before .bits-of3 .ensures)) at (c .four3 .ensures))
 
-bits-of-requires : tie.Need-bits-of-requires
-bits-of-requires c κs = tt
-
 four-requires : tie.Need-four-requires
 four-requires c κs = omega (arith, after-operands (c .before .before) .1)
-
-bits-of-requires-2 : tie.Need-bits-of-requires-2
-bits-of-requires-2 c κs = tt
 
 four-requires-2 : tie.Need-four-requires-2
 four-requires-2 c κs = omega (arith, after-c1 (c .before .before) .1)
 
-bits-of-requires-3 : tie.Need-bits-of-requires-3
-bits-of-requires-3 c κs = tt
-
 four-requires-3 : tie.Need-four-requires-3
 four-requires-3 c κs = omega (arith, after-c2 (c .before .before) .1)
-
-bits-of-requires-4 : tie.Need-bits-of-requires-4
-bits-of-requires-4 c κs = tt
 
 four-requires-4 : tie.Need-four-requires-4
 four-requires-4 c κs = omega (arith, after-c3 (c .before .before) .1)
@@ -118,17 +91,17 @@ pub encode-species-spec : {M : Type 1} → statement M
 encode-species-spec =
     tie.close
     (tie.spec
-    new-requires
-    one-requires
-    one-requires-2
-    one-requires-3
-    one-requires-4
-    bits-of-requires
+    (λ c κs. tt)
+    (λ c κs. omega arith)
+    (λ c κs. omega arith)
+    (λ c κs. omega arith)
+    (λ c κs. omega arith)
+    (λ c κs. tt)
     four-requires
-    bits-of-requires-2
+    (λ c κs. tt)
     four-requires-2
-    bits-of-requires-3
+    (λ c κs. tt)
     four-requires-3
-    bits-of-requires-4
+    (λ c κs. tt)
     four-requires-4
     returns)

@@ -65,14 +65,8 @@ module _ (b : List ℕ) (at : ℕ) (k : Command) where
 few : {n : ℕ} (k : Command) → n ≡ length (encode k) → n ≤ capacity
 few k is = omega (arith, longest k)
 
-encode-requires : tie.Need-encode-requires
-encode-requires c κs = tt
-
 returns : tie.Need-returns
 returns c = declined _ _ _ (search past-end)
-
-sub-if2 : tie.Need-sub-if2
-sub-if2 c = omega arith
 
 returns-2 : tie.Need-returns-2
 returns-2 c = declined _ _ _ (search too-long)
@@ -80,16 +74,18 @@ returns-2 c = declined _ _ _ (search too-long)
 lay-requires : tie.Need-lay-requires
 lay-requires c κs = (search few, omega arith)
 
-add-t7 : tie.Need-add-t7
-add-t7 c = omega arith
-
-same-length : tie.Need-same-length
-same-length c = search
-
 returns-3 : tie.Need-returns-3
 returns-3 c = written _ _ _ (search fits) (search laid) (search)
 
 pub write-spec : {M : Type 1} → statement M
 write-spec =
     tie.close
-    (tie.spec encode-requires returns sub-if2 returns-2 lay-requires add-t7 same-length returns-3)
+    (tie.spec
+    (λ c κs. tt)
+    returns
+    (λ c. omega arith)
+    returns-2
+    lay-requires
+    (λ c. omega arith)
+    (λ c. search)
+    returns-3)

@@ -5,22 +5,17 @@ use Rattle.survey.proofs.Digits.{grown-number}
 use Rattle.survey.proofs.encoding.Encoded.eight.Statement.{statement}
 use Rattle.survey.proofs.encoding.Encoded.eight.Tie as tie
 
-cast-four : tie.Need-cast-four
-cast-four c = omega arith
-
-four-requires : tie.Need-four-requires
-four-requires c κs = omega arith
-
-cast-four-2 : tie.Need-cast-four-2
-cast-four-2 c = omega arith
-
-four-requires-2 : tie.Need-four-requires-2
-four-requires-2 c κs = omega arith
-
 returns : tie.Need-returns
 returns c =
     let a = c .before .before .args in
     grown-number (held (a .self)) (a .self .length) 4 4 (a .x) (c .before .four .ensures) (c .four2 .ensures)
 
 pub eight-spec : {M : Type 1} → statement M
-eight-spec = tie.close (tie.spec cast-four four-requires cast-four-2 four-requires-2 returns)
+eight-spec =
+    tie.close
+    (tie.spec
+    (λ c. omega arith)
+    (λ c κs. omega arith)
+    (λ c. omega arith)
+    (λ c κs. omega arith)
+    returns)

@@ -10,12 +10,6 @@ use Rattle.survey.specs.Encoded.{capacity}
 use Rattle.survey.proofs.encoding.Encoded.one.Statement.{statement}
 use Rattle.survey.proofs.encoding.Encoded.one.Tie as tie
 
-element-write-e : tie.Need-element-write-e
-element-write-e c = omega arith
-
-add-e : tie.Need-add-e
-add-e c = omega arith
-
 returns : tie.Need-returns
 returns c =
     let e = c .args .self in
@@ -24,4 +18,9 @@ returns c =
     (rw add-one (take-suc-set (e .bytes) (e .length) (c .args .x) within), refl)
 
 pub one-spec : {M : Type 1} → statement M
-one-spec = tie.close (tie.spec element-write-e add-e returns)
+one-spec =
+    tie.close
+    (tie.spec
+    (λ c. omega arith)
+    (λ c. omega arith)
+    returns)

@@ -8,22 +8,17 @@ use Rattle.survey.proofs.Growth.{grown-then}
 use Rattle.survey.proofs.encoding.Encoded.two.Statement.{statement}
 use Rattle.survey.proofs.encoding.Encoded.two.Tie as tie
 
-cast-one : tie.Need-cast-one
-cast-one c = omega arith
-
-one-requires : tie.Need-one-requires
-one-requires c κs = omega arith
-
-cast-one-2 : tie.Need-cast-one-2
-cast-one-2 c = omega arith
-
-one-requires-2 : tie.Need-one-requires-2
-one-requires-2 c κs = omega arith
-
 returns : tie.Need-returns
 returns c =
     let a = c .before .before .args in
     rw div-one (grown-then (held (a .self)) (a .x / 256 % 256 ∷ []) (a .x % 256 ∷ []) (a .self .length) (c .before .one .ensures) (c .one2 .ensures))
 
 pub two-spec : {M : Type 1} → statement M
-two-spec = tie.close (tie.spec cast-one one-requires cast-one-2 one-requires-2 returns)
+two-spec =
+    tie.close
+    (tie.spec
+    (λ c. omega arith)
+    (λ c κs. omega arith)
+    (λ c. omega arith)
+    (λ c κs. omega arith)
+    returns)

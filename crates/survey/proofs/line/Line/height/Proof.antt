@@ -21,55 +21,19 @@ small T s cm tenths asked is = le-trans (single-tariff-range (s .c1) (s .c2) (s 
 
 ruleset line-checks = (stop-when, past-when, stop-unless, past-unless, follows-count, stops-count, le-leb, lt-leb, over, not-over, small)
 
-tariff-of-requires : tie.Need-tariff-of-requires
-tariff-of-requires c κs = tt
-
-enum-known-t : tie.Need-enum-known-t
-enum-known-t c = search needs
-
-enum-known-why : tie.Need-enum-known-why
-enum-known-why c = search needs
-
-of-figure-requires : tie.Need-of-figure-requires
-of-figure-requires c κs = tt
-
-returns : tie.Need-returns
-unfolding height
-returns c = search line-checks depth 14
-
-returns-2 : tie.Need-returns-2
-unfolding height
-returns-2 c = search line-checks depth 14
-
-sub-if2 : tie.Need-sub-if2
-sub-if2 c = search small
-
-returns-3 : tie.Need-returns-3
-unfolding height
-returns-3 c = search line-checks depth 14
-
-add-number : tie.Need-add-number
-add-number c = search needs
-
-add-tariffs : tie.Need-add-tariffs
-add-tariffs c = search needs
-
-returns-4 : tie.Need-returns-4
-unfolding height
-returns-4 c = search line-checks depth 14
-
 pub height-spec : {M : Type 1} → statement M
+unfolding height
 height-spec =
     tie.close
     (tie.spec
-    tariff-of-requires
-    enum-known-t
-    enum-known-why
-    of-figure-requires
-    returns
-    returns-2
-    sub-if2
-    returns-3
-    add-number
-    add-tariffs
-    returns-4)
+    (λ c κs. tt)
+    (λ c. search needs)
+    (λ c. search needs)
+    (λ c κs. tt)
+    (λ c. search line-checks depth 14)
+    (λ c. search line-checks depth 14)
+    (λ c. search small)
+    (λ c. search line-checks depth 14)
+    (λ c. search needs)
+    (λ c. search needs)
+    (λ c. search line-checks depth 14))

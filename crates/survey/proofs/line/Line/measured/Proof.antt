@@ -38,60 +38,20 @@ trees-few count n = omega arith
 
 ruleset line-checks = (refuses, goes-on, stop-unless, past-unless, le-leb, lt-leb, over, not-over, squares-few, trees-few)
 
-within-requires : tie.Need-within-requires
-within-requires c κs = tt
-
-returns : tie.Need-returns
-unfolding measured
-returns c = search line-checks depth 14
-
-returns-2 : tie.Need-returns-2
-unfolding measured
-returns-2 c = search line-checks depth 14
-
-sub-if3 : tie.Need-sub-if3
-sub-if3 c = omega arith
-
-returns-3 : tie.Need-returns-3
-unfolding measured
-returns-3 c = search line-checks depth 14
-
-mul-added : tie.Need-mul-added
-mul-added c = search square-fits
-
-mul-added-2 : tie.Need-mul-added-2
-mul-added-2 c = search squares-fit
-
-sub-if4 : tie.Need-sub-if4
-sub-if4 c = search squares-few
-
-returns-4 : tie.Need-returns-4
-unfolding measured
-returns-4 c = search line-checks depth 14
-
-add-n : tie.Need-add-n
-add-n c = search needs
-
-add-squares : tie.Need-add-squares
-add-squares c = search (sum-fits, squares-few)
-
-returns-5 : tie.Need-returns-5
-unfolding measured
-returns-5 c = search line-checks depth 14
-
 pub measured-spec : {M : Type 1} → statement M
+unfolding measured
 measured-spec =
     tie.close
     (tie.spec
-    within-requires
-    returns
-    returns-2
-    sub-if3
-    returns-3
-    mul-added
-    mul-added-2
-    sub-if4
-    returns-4
-    add-n
-    add-squares
-    returns-5)
+    (λ c κs. tt)
+    (λ c. search line-checks depth 14)
+    (λ c. search line-checks depth 14)
+    (λ c. omega arith)
+    (λ c. search line-checks depth 14)
+    (λ c. search square-fits)
+    (λ c. search squares-fit)
+    (λ c. search squares-few)
+    (λ c. search line-checks depth 14)
+    (λ c. search needs)
+    (λ c. search (sum-fits, squares-few))
+    (λ c. search line-checks depth 14))

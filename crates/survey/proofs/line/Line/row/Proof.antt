@@ -8,24 +8,13 @@ use Rattle.survey.proofs.line.Line.row.Tie as tie
 
 ruleset row-checks = (if-so, if-not, stop-when, past-when, eq-eqb, ne-eqb, given)
 
-empty-row-requires : tie.Need-empty-row-requires
-empty-row-requires c κs = tt
-
-returns : tie.Need-returns
-unfolding lineRow
-returns c = search row-checks
-
-returns-2 : tie.Need-returns-2
-unfolding lineRow
-returns-2 c = search row-checks
-
-some-row-requires : tie.Need-some-row-requires
-some-row-requires c κs = tt
-
-returns-3 : tie.Need-returns-3
-unfolding lineRow
-returns-3 c = search row-checks
-
 pub row-spec : {M : Type 1} → statement M
+unfolding lineRow
 row-spec =
-    tie.close (tie.spec empty-row-requires returns returns-2 some-row-requires returns-3)
+    tie.close
+    (tie.spec
+    (λ c κs. tt)
+    (λ c. search row-checks)
+    (λ c. search row-checks)
+    (λ c κs. tt)
+    (λ c. search row-checks))

@@ -28,30 +28,6 @@ made c =
     (λ is-line. ⊎-elim (λ w. sym (w .3 ∙ w .2 .ensures)) (λ w. absurd (true≢false (sym is-line ∙ w .0 .left))) (seen .if2 .came))
     (c .decide .ensures)
 
-changed-requires : tie.Need-changed-requires
-changed-requires c κs = tt
-
-returns : tie.Need-returns
-returns c = search at-end
-
-names-requires : tie.Need-names-requires
-names-requires c κs = tt
-
-cast-i : tie.Need-cast-i
-cast-i c = search needs
-
-mul-there : tie.Need-mul-there
-mul-there c = search needs
-
-element-copy-out-there : tie.Need-element-copy-out-there
-element-copy-out-there c = search needs
-
-has-row-requires : tie.Need-has-row-requires
-has-row-requires c κs = tt
-
-decide-requires : tie.Need-decide-requires
-decide-requires c κs = tt
-
 changed-requires-2 : tie.Need-changed-requires-2
 changed-requires-2 c κs = made c .place
 
@@ -62,13 +38,13 @@ pub apply-spec : {M : Type 1} → statement M
 apply-spec =
     tie.close
     (tie.spec
-    changed-requires
-    returns
-    names-requires
-    cast-i
-    mul-there
-    element-copy-out-there
-    has-row-requires
-    decide-requires
+    (λ c κs. tt)
+    (λ c. search at-end)
+    (λ c κs. tt)
+    (λ c. search needs)
+    (λ c. search needs)
+    (λ c. search needs)
+    (λ c κs. tt)
+    (λ c κs. tt)
     changed-requires-2
     returns-2)
