@@ -2,7 +2,7 @@
 -- otherwise be outside what the next figure is worked from. Of a valid survey, and so of every one that a book reaches, applying is the text (Law.AsWritten:
 -- as-written), and every book comes to what it comes to by the text (Law.Playing: play-as-written). No promise about a whole book is stated over this.
 use Prim.Native.Nat.{ℕ, _+_, _*_}
-use mathlib.Core.Bool.{cond}
+use mathlib.Core.Bool.{Bool, cond}
 use mathlib.Core.List.{List, [], _∷_}
 use lib.Dec.{leb, eqb}
 use Rattle.biomass.specs.Whole.{inside}
@@ -80,12 +80,16 @@ lineRow factors l =
 -- ---- a survey
 
 -- a command of the open line, with what becomes of the line
+abbrev pub onOpen : {A : Type 0} → Bool → Report Line → (Line → Report A) → Report A
+onOpen is-open after next =
+    unless is-open 10
+    (after then next)
+
 abbrev pub onLine : Report Line → Survey → Report Survey
 onLine after s =
     when (s .ended) 5
-    (unless (s .active) 10
-    (after then λ l.
-    gives (withLine s l)))
+    (onOpen (s .active) after λ l.
+    gives (withLine s l))
 
 unfoldable pub applyMeasured : ℕ → ℕ → Survey → Report Survey
 applyMeasured class count s = onLine (measured class count (s .line)) s
@@ -93,16 +97,19 @@ applyMeasured class count s = onLine (measured class count (s .line)) s
 unfoldable pub applyHeight : ℕ → ℕ → Survey → Report Survey
 applyHeight cm tenths s = onLine (height cm tenths (s .line)) s
 
--- the check declines a survey with a line open and 32 closed
-unfoldable pub kept : Row → Survey → Report Survey
-kept r s = when (leb mostLines (s .closed)) 11 (gives (withRow s r))
+-- closing, with the row that the line leaves; the last check declines a survey with a line open and 32 closed
+abbrev pub keeping : {A : Type 0} → Bool → ℕ → Report Row → (Row → Report A) → Report A
+keeping is-open closed row next =
+    unless is-open 10
+    (row then λ r.
+    when (leb mostLines closed) 11
+    (next r))
 
 unfoldable pub applyClose : Survey → Report Survey
 applyClose s =
     when (s .ended) 5
-    (unless (s .active) 10
-    (lineRow (s .factors) (s .line) then λ r.
-    kept r s))
+    (keeping (s .active) (s .closed) (lineRow (s .factors) (s .line)) λ r.
+    gives (withRow s r))
 
 -- the other commands have no check besides
 abbrev pub apply : Command → Survey → Report Survey

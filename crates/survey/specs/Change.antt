@@ -3,12 +3,12 @@
 use Prim.Native.Nat.{ℕ, _<_}
 use mathlib.Core.Bool.{Bool, true, false}
 use mathlib.Core.List.{List}
-use lib.Dec.{leb, ltb}
-use Rattle.biomass.specs.Report.{Report, refused, gives, unless, _then_}
-use Rattle.survey.specs.Refusal.{number, when}
+use lib.Dec.{ltb}
+use Rattle.biomass.specs.Report.{Report, refused, gives}
+use Rattle.survey.specs.Refusal.{number}
 use Rattle.survey.specs.Line.{begun, factorAt}
-use Rattle.survey.specs.Survey.{mostLines, withSpecies, withFactor, withOpened, withRow, withEnd, declaredAs, declaring, giving, opening}
-use Rattle.survey.specs.Apply.{measured, height, lineRow}
+use Rattle.survey.specs.Survey.{mostLines, withSpecies, withFactor, withOpened, withRow, withEnd, declaredAs, declaring, giving, opening, ending}
+use Rattle.survey.specs.Apply.{measured, height, lineRow, onOpen, keeping}
 use Rattle.survey.specs.declared.command.Species.{Species}
 use Rattle.survey.specs.declared.command.Command.{Command}
 use Rattle.survey.specs.declared.line.Line.{Line}
@@ -66,22 +66,13 @@ opens stratum id p q v =
     (gives (Change.Line (begun stratum id (v .there) p q)))
 
 abbrev pub notes : Bool → Report Line → Report Change
-notes active after =
-    unless active 10
-    (after then λ l.
-    gives (Change.Line l))
+notes active after = onOpen active after λ l. gives (Change.Line l)
 
 abbrev pub closes : Seen → Line → List ℕ → Report Change
-closes v l factors =
-    unless (v .active) 10
-    (lineRow factors l then λ r.
-    when (leb mostLines (v .closed)) 11
-    (gives (Change.Row r)))
+closes v l factors = keeping (v .active) (v .closed) (lineRow factors l) λ r. gives (Change.Row r)
 
 abbrev pub ends : Bool → Report Change
-ends active =
-    when active 9
-    (gives Change.End)
+ends active = ending active (gives Change.End)
 
 -- any command
 abbrev pub decided : Command → Seen → Line → List ℕ → Report Change

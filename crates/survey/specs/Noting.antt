@@ -24,6 +24,7 @@ noting (Noting.Refused why) = refused (number why)
 abbrev pub notedTo : ℕ → Report Line → Report Note
 notedTo next line = line then λ l. gives (ofTheLine l next)
 
+-- what is noted of a command that was read, by what it makes of the open line
 abbrev pub noteBy : ℕ → Own → Report Note
 noteBy next (own after) = notedTo next after
 noteBy next notOwn = gives notOfTheLine

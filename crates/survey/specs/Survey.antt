@@ -224,8 +224,11 @@ close s =
     (gives (withRow s (closingRow s))))))))
 
 -- "Ending: 9."
+abbrev pub ending : {A : Type 0} → Bool → Report A → Report A
+ending is-open next = when is-open 9 next
+
 unfoldable pub finish : Survey → Report Survey
 finish s =
     when (s .ended) 5
-    (when (s .active) 9
+    (ending (s .active)
     (gives (withEnd s)))

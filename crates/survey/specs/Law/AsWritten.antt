@@ -8,7 +8,7 @@ use mathlib.Core.Bool.{Bool, true, false, cond}
 use lib.Dec.{leb, eqb}
 use borrow.Author.Tests.{leb-true, leb-false, le-leb, lt-leb, eqb-false}
 use Rattle.biomass.specs.Whole.{inside}
-use Rattle.biomass.specs.Report.{gives, _then_}
+use Rattle.biomass.specs.Report.{Report, gives, _then_}
 use Rattle.biomass.specs.Limits.{mostMeasured, mostHeights, mostEstimated}
 use Rattle.biomass.specs.Tariff.{lineTariff}
 use Rattle.biomass.specs.Mean.{mean}
@@ -22,7 +22,7 @@ use Rattle.biomass.specs.Law.Answers.{mean-answers, trees-answers, line-tariff-
 use Rattle.survey.specs.Line.{tallied, tariffOf, T-of, d-of, N-of, wholeCm, noTrees, estimatedRow, emptyRow}
 use Rattle.survey.specs.Survey.{mostLines, withRow, measure, giveHeight, f-of, treeAt, someTrees, estimate, closingRow, close}
 use Rattle.survey.specs.AsWritten.{asWritten}
-use Rattle.survey.specs.Apply.{mostSquares, mostTariffs, measured, height, worked, lineRow, applyMeasured, applyHeight, kept, applyClose, apply}
+use Rattle.survey.specs.Apply.{mostSquares, mostTariffs, measured, height, worked, lineRow, applyMeasured, applyHeight, keeping, applyClose, apply}
 use Rattle.survey.specs.Valid.{ValidSpecies, ValidTally, ValidHeights, Valid}
 use Rattle.survey.specs.Law.Checks.{when-same, unless-same, when-then, unless-then, cond-then, then-then, passed-then, answered-then}
 use Rattle.survey.specs.declared.command.Command.{Command}
@@ -97,9 +97,11 @@ line-operands s v is-open trees heights factor =
       root = species .root;
     }
 
--- where fewer than 32 lines are closed, there is a place for the row
+-- what becomes of a row that the open line leaves: where fewer than 32 lines are closed, there is a place for it
+abbrev kept : Row → Survey → Report Survey
+kept r s = keeping true (s .closed) (gives r) λ x. gives (withRow s x)
+
 row-kept : {r : Row} (s : Survey) → s .closed < mostLines → closingRow s ≡ r → kept r s ≡ gives (withRow s (closingRow s))
-unfolding kept
 row-kept s room is = rw (lt-leb mostLines (s .closed) room, is)
 
 pub not-zero : (n : ℕ) → eqb n 0 ≡ false → 1 ≤ n

@@ -14,7 +14,7 @@ use Rattle.biomass.specs.Law.Report.{inside-true}
 use Rattle.survey.specs.Refusal.{when}
 use Rattle.survey.specs.Line.{begun}
 use Rattle.survey.specs.Survey.{speciesAt, withState, withLine, speciesInRange, declaredAs, declaring, declare, giveFactor, opened, opening, openLine, finish}
-use Rattle.survey.specs.Apply.{measured, height, onLine, applyMeasured, applyHeight, kept, applyClose, apply}
+use Rattle.survey.specs.Apply.{measured, height, onOpen, onLine, applyMeasured, applyHeight, applyClose, apply}
 use Rattle.survey.specs.Change.{changed, HasPlace, told, named, seenOf, opens, notes, decided, own, notOwn, ownOf}
 use Rattle.survey.specs.Law.Checks.{Gives, passed, when-then, unless-then, then-then, species-in-range}
 use Rattle.survey.specs.declared.command.Species.{Species}
@@ -34,7 +34,7 @@ module _ (s : Survey) where
   make k = changed k s
 
   -- of a command of the open line, which stays open
-  line-made : (after : Report Line) → notes (s .active) after then make ≡ unless (s .active) 10 (after then λ l. gives (withLine s l))
+  line-made : (after : Report Line) → notes (s .active) after then make ≡ onOpen (s .active) after λ l. gives (withLine s l)
   line-made after =
       unless-then make (s .active) 10 _ _ (λ is-open.
       then-then make after _ _ (λ l gave. ap (λ (b : Bool). gives (withState s b l (s .ended))) (sym is-open)))
@@ -45,7 +45,7 @@ module _ (s : Survey) where
 
   -- and so of every command
   made : (c : Command) → apply c s ≡ when (s .ended) 5 (after c)
-  unfolding declare giveFactor openLine applyMeasured applyHeight applyClose kept finish
+  unfolding declare giveFactor openLine applyMeasured applyHeight applyClose finish
   made (Command.Species id species) = ap (when (s .ended) 5) (sym (search thens depth 12))
   made (Command.Factor cm factor) = ap (when (s .ended) 5) (sym (search thens depth 12))
   made (Command.Open stratum id p q) = ap (when (s .ended) 5) (sym (search thens depth 12))

@@ -17,7 +17,7 @@ use Rattle.survey.specs.Command.{Fits}
 use Rattle.survey.specs.Line.{lineWith, begun, withTrees, withHeight, tariffOf, factorAt}
 use Rattle.survey.specs.Survey.{mostLines, speciesAt, withState, withSpecies, withFactor, withOpened, withLine, withRow, withEnd, speciesInRange, declared, declare, giveFactor, opened, areasInRange, openLine, finish}
 use Rattle.survey.specs.Closings.{closing}
-use Rattle.survey.specs.Apply.{measured, height, onLine, applyMeasured, applyHeight, kept, applyClose, apply}
+use Rattle.survey.specs.Apply.{measured, height, onLine, applyMeasured, applyHeight, applyClose, apply}
 use Rattle.survey.specs.Valid.{ValidSpecies, ValidTally, ValidHeights, ValidLine, Valid}
 use Rattle.survey.specs.Law.Checks.{Gives, gives-such, when-such, unless-such, then-such, passed, species-in-range}
 use Rattle.survey.specs.Law.AsWritten.{tallied-valid, height-added}
@@ -151,7 +151,7 @@ some-row : (s : Survey) (r : Row) → Closed s (withRow s r)
 some-row s r = record { row = r; is = refl }
 
 closes : (s : Survey) → Gives (Closed s) (applyClose s)
-unfolding applyClose kept
+unfolding applyClose
 closes s = search (passed, some-row) depth 8
 
 ruleset checked = (passed, species-given, factor-given, line-opened, trees-noted, height-noted, book-ended)

@@ -9,7 +9,7 @@ use Rattle.biomass.specs.Report.{refused}
 use Rattle.biomass.specs.Limits.{mostMeasured, mostHeights}
 use Rattle.biomass.specs.Law.Declines.{Declines}
 use Rattle.survey.specs.Survey.{mostLines, declare, giveFactor, openLine, finish}
-use Rattle.survey.specs.Apply.{measured, height, applyMeasured, applyHeight, kept, applyClose, apply}
+use Rattle.survey.specs.Apply.{measured, height, applyMeasured, applyHeight, applyClose, apply}
 use Rattle.survey.specs.Valid.{Valid}
 use Rattle.survey.specs.Law.Named.{refusals, line-row-declines, only-named}
 use Rattle.survey.specs.declared.command.Command.{Command}
@@ -38,7 +38,7 @@ other X n e = record { holds = λ is. absurd (eqb-false n 11 e is) }
 ruleset limits = (refusals, other, at-limit, leb-true, leb-false)
 
 eleven-told : (c : Command) (s : Survey) → Declines (Eleven (AtLimit c s)) (apply c s)
-unfolding declare giveFactor openLine applyMeasured measured applyHeight height applyClose kept finish
+unfolding declare giveFactor openLine applyMeasured measured applyHeight height applyClose finish
 eleven-told (Command.Species id species) s = search limits depth 20
 eleven-told (Command.Factor cm factor) s = search limits depth 20
 eleven-told (Command.Open stratum species p q) s = search limits depth 20

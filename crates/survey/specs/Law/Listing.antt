@@ -21,7 +21,7 @@ use Rattle.survey.specs.Line.{begun, treeWith, Estimate, noTrees, emptyR
 use Rattle.survey.specs.Survey.{noLine, fresh, declare, giveFactor, opened, openLine, measure, giveHeight, estimate, closingRow, close, finish}
 use Rattle.survey.specs.AsWritten.{asWritten}
 use Rattle.survey.specs.Closings.{closings, closingsOf}
-use Rattle.survey.specs.Apply.{measured, height, worked, lineRow, applyMeasured, applyHeight, kept, applyClose}
+use Rattle.survey.specs.Apply.{measured, height, worked, lineRow, applyMeasured, applyHeight, applyClose}
 use Rattle.survey.specs.Playing.{ended, stepBy, playUpToBy, playBy, play}
 use Rattle.survey.specs.Sheet.{rowLength, sheetLength, rowBytes, sheetBytes}
 use Rattle.survey.specs.Total.{totalled, sumOf, totalOf, total, sheetAfter}
@@ -56,7 +56,7 @@ listingLines = record { N = 2400; tree = treeWith listed 26 600 101 } ∷ noTree
 pub listing-played : play listing ≡ ended listingSurvey
 unfolding
     listing encodeAll speciesFrom factorFrom openFrom measuredFrom heightFrom commandFrom read
-    fresh declare giveFactor opened openLine applyMeasured measured applyHeight height applyClose kept finish
+    fresh declare giveFactor opened openLine applyMeasured measured applyHeight height applyClose finish
     lineRow greatest meanOf mean trees singleTariff lineTariff
     worked row tree stem stemEnds VL VH crown crownEnds root rootEnds
     stepBy playUpToBy play listingSurvey

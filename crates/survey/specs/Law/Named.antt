@@ -13,7 +13,7 @@ use Rattle.biomass.specs.Law.Report.{both-true}
 use Rattle.biomass.specs.Law.Declines.{Declines, six-declines, six-or-thirteen-declines, single-tariff-declines, line-tariff-declines, mean-declines, trees-declines, row-declines}
 use Rattle.survey.specs.Survey.{declare, giveFactor, openLine, measure, giveHeight, close, finish}
 use Rattle.survey.specs.AsWritten.{asWritten, numbersOf, isIn}
-use Rattle.survey.specs.Apply.{measured, height, worked, lineRow, applyMeasured, applyHeight, kept, applyClose, apply}
+use Rattle.survey.specs.Apply.{measured, height, worked, lineRow, applyMeasured, applyHeight, applyClose, apply}
 use Rattle.survey.specs.Valid.{Valid}
 use Rattle.survey.specs.Law.Checks.{declined}
 use Rattle.survey.specs.Law.AsWritten.{as-written}
@@ -60,7 +60,7 @@ abbrev NamedOrBesides : Command → ℕ → Type 0
 NamedOrBesides c = In (6 ∷ 11 ∷ numbersOf c)
 
 pub never-other : (c : Command) (s : Survey) → Declines (NamedOrBesides c) (apply c s)
-unfolding declare giveFactor openLine applyMeasured measured applyHeight height applyClose kept finish
+unfolding declare giveFactor openLine applyMeasured measured applyHeight height applyClose finish
 never-other (Command.Species id species) s = search refusals depth 20
 never-other (Command.Factor cm factor) s = search refusals depth 20
 never-other (Command.Open stratum species p q) s = search refusals depth 20

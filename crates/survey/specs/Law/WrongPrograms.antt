@@ -20,7 +20,7 @@ use Rattle.survey.specs.Reading.{speciesFrom, openFrom, commandFrom, rea
 use Rattle.survey.specs.Writing.{laidAt}
 use Rattle.survey.specs.Book.{encodeAll}
 use Rattle.survey.specs.Survey.{fresh, declare, opened, openLine, finish}
-use Rattle.survey.specs.Apply.{lineRow, kept, applyClose}
+use Rattle.survey.specs.Apply.{lineRow, applyClose}
 use Rattle.survey.specs.Playing.{stepBy, playUpToBy, play}
 use Rattle.survey.specs.Sheet.{rowLength, sheetLength, rowBytes, sheetBytes}
 use Rattle.survey.specs.Total.{Answer, refusedAt, totalled, total, sheetAfter}
@@ -44,7 +44,7 @@ secondLine = encodeAll (species3 ∷ line2 ∷ Command.Close ∷ Command.End ∷
 
 second-sheet : (sheet : List ℕ) → sheetLength ≤ length sheet → sheetAfter secondLine sheet ≡ rowBytes row2 ++ drop rowLength sheet
 unfolding
-    secondLine encodeAll speciesFrom openFrom commandFrom read fresh declare opened openLine lineRow kept applyClose finish stepBy playUpToBy play
+    secondLine encodeAll speciesFrom openFrom commandFrom read fresh declare opened openLine lineRow applyClose finish stepBy playUpToBy play
     laidAt sheetBytes rowBytes
 second-sheet sheet room = sheet-applied secondLine sheet ∙ rw (le-ltb (length sheet) sheetLength room)
 
