@@ -5,7 +5,7 @@ use mathlib.Core.Bool.{Bool, true, false}
 use mathlib.Core.List.{List}
 use lib.Dec.{ltb}
 use Rattle.biomass.specs.Report.{Report, refused, gives}
-use Rattle.survey.specs.Refusal.{number}
+use Rattle.survey.specs.Refusal.{number, when}
 use Rattle.survey.specs.Line.{begun, factorAt}
 use Rattle.survey.specs.Survey.{mostLines, withSpecies, withFactor, withOpened, withRow, withEnd, declaredAs, declaring, giving, opening, ending}
 use Rattle.survey.specs.Apply.{measured, height, lineRow, onOpen, keeping}
@@ -56,7 +56,7 @@ named Command.End = record { line = false; stratum = 0; species = 0 }
 
 -- what a command sees of a survey, with what stands in the tables for the stratum and the species that it names
 abbrev pub seenOf : Species → Bool → Survey → Seen
-seenOf there before s = record { there = there; before = before; active = s .active; closed = s .closed }
+seenOf there before s = record { there = there; before = before; active = s .active; closed = s .closed; ended = s .ended }
 
 -- What each command changes of a survey that has not ended, by what it sees of it, the line and the factors: an opening, a command of the open line with what
 -- becomes of the line, a closing, the end
@@ -74,15 +74,19 @@ closes v l factors = keeping (v .active) (v .closed) (lineRow factors l) λ r. g
 abbrev pub ends : Bool → Report Change
 ends active = ending active (gives Change.End)
 
--- any command
+-- by command
+abbrev pub changeOf : Command → Seen → Line → List ℕ → Report Change
+changeOf (Command.Species id species) v l factors = declaring id species (declaredAs id (v .there)) (gives (Change.Species id species))
+changeOf (Command.Factor cm factor) v l factors = giving cm factor (ltb 0 (factorAt factors cm)) (gives (Change.Factor cm factor))
+changeOf (Command.Open stratum species p q) v l factors = opens stratum species p q v
+changeOf (Command.Measured class count) v l factors = notes (v .active) (measured class count l)
+changeOf (Command.Height cm tenths) v l factors = notes (v .active) (height cm tenths l)
+changeOf Command.Close v l factors = closes v l factors
+changeOf Command.End v l factors = ends (v .active)
+
+-- and of any survey: "5 the book has ended, first of all."
 abbrev pub decided : Command → Seen → Line → List ℕ → Report Change
-decided (Command.Species id species) v l factors = declaring id species (declaredAs id (v .there)) (gives (Change.Species id species))
-decided (Command.Factor cm factor) v l factors = giving cm factor (ltb 0 (factorAt factors cm)) (gives (Change.Factor cm factor))
-decided (Command.Open stratum species p q) v l factors = opens stratum species p q v
-decided (Command.Measured class count) v l factors = notes (v .active) (measured class count l)
-decided (Command.Height cm tenths) v l factors = notes (v .active) (height cm tenths l)
-decided Command.Close v l factors = closes v l factors
-decided Command.End v l factors = ends (v .active)
+decided c v l factors = when (v .ended) 5 (changeOf c v l factors)
 
 -- What a command makes of the open line, where it is one of the line's own; the code leaves the rest of the survey aside for these (Noting)
 pub data Own : Type 0 where

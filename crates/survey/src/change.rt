@@ -52,6 +52,8 @@ pub(crate) struct Seen {
     pub(crate) active: bool,
     // How many lines are closed.
     pub(crate) closed: usize,
+    // Whether the book has ended.
+    pub(crate) ended: bool,
 }
 
 // A declaration names a species, and an opening a line.
@@ -223,9 +225,8 @@ fn closing(seen: Seen, line: Line, factors: &[u8; 101]) -> Change
         Closed::Is(row) => row,
         Closed::Refused(why) => return Change::Refused(why),
     };
-    let at = seen.closed;
     // No survey reaches this with a line open.
-    if MOST_LINES <= at {
+    if MOST_LINES <= seen.closed {
         return Change::Refused(Refusal::Limit);
     }
     Change::Row(row)
@@ -241,10 +242,13 @@ fn ending(active: bool) -> Change
     Change::End
 }
 
-// What a command changes of a survey that has not ended, of which it sees this.
+// What a command changes of a survey of which it sees this.
 pub(crate) fn decide(command: Command, seen: Seen, line: Line, factors: &[u8; 101]) -> Change
     ensures { λ r. ⌜ told r ≡ decided command seen line (now (factors .entry)) ⌝ }
 {
+    if seen.ended {
+        return Change::Refused(Refusal::Ended);
+    }
     match command {
         Command::Species(id, species) => declaring(id, species, seen.there),
         Command::Factor { cm, factor } => giving(cm, factor, factors),

@@ -124,6 +124,7 @@ pub(crate) fn play(book: &[u8]) -> Played
                     before,
                     active: survey.active,
                     closed: survey.closed,
+                    ended: survey.ended,
                 };
                 match decide(command, seen, line, &survey.factors) {
                     Change::Species(id, species) => {

@@ -123,9 +123,6 @@ impl Survey {
     pub fn apply(self, command: Command) -> Applied
         ensures { λ r. ⌜ applied r ≡ leaves self (apply command self) ⌝ }
     {
-        if self.ended {
-            return self.changed(Change::Refused(Refusal::Ended));
-        }
         let named = names(command);
         // An id above 15 has the place of another, and no command that names it is taken.
         let i = (named.species % 16) as usize;
@@ -140,6 +137,7 @@ impl Survey {
             before,
             active: self.active,
             closed: self.closed,
+            ended: self.ended,
         };
         let change = decide(command, seen, self.line, &self.factors);
         self.changed(change)

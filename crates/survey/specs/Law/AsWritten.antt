@@ -8,7 +8,7 @@ use mathlib.Core.Bool.{Bool, true, false, cond}
 use lib.Dec.{leb, eqb}
 use borrow.Author.Tests.{leb-true, leb-false, le-leb, lt-leb, eqb-false}
 use Rattle.biomass.specs.Whole.{inside}
-use Rattle.biomass.specs.Report.{Report, gives, _then_}
+use Rattle.biomass.specs.Report.{Report, gives}
 use Rattle.biomass.specs.Limits.{mostMeasured, mostHeights, mostEstimated}
 use Rattle.biomass.specs.Tariff.{lineTariff}
 use Rattle.biomass.specs.Mean.{mean}

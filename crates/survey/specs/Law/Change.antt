@@ -9,14 +9,14 @@ use mathlib.Core.List.{List}
 use lib.Dec.{ltb}
 use borrow.Author.Tests.{leb-false}
 use Rattle.biomass.specs.Whole.{inside}
-use Rattle.biomass.specs.Report.{Report, refused, gives, unless, _then_}
+use Rattle.biomass.specs.Report.{Report, refused, gives, _then_}
 use Rattle.biomass.specs.Law.Report.{inside-true}
 use Rattle.survey.specs.Refusal.{when}
 use Rattle.survey.specs.Line.{begun}
 use Rattle.survey.specs.Survey.{speciesAt, withState, withLine, speciesInRange, declaredAs, declaring, declare, giveFactor, opened, opening, openLine, finish}
 use Rattle.survey.specs.Apply.{measured, height, onOpen, onLine, applyMeasured, applyHeight, applyClose, apply}
-use Rattle.survey.specs.Change.{changed, HasPlace, told, named, seenOf, opens, notes, decided, own, notOwn, ownOf}
-use Rattle.survey.specs.Law.Checks.{Gives, passed, when-then, unless-then, then-then, species-in-range}
+use Rattle.survey.specs.Change.{changed, HasPlace, told, named, seenOf, opens, notes, changeOf, decided, own, notOwn, ownOf}
+use Rattle.survey.specs.Law.Checks.{Gives, when-such, passed, when-then, unless-then, then-then, species-in-range}
 use Rattle.survey.specs.declared.command.Species.{Species}
 use Rattle.survey.specs.declared.command.Command.{Command}
 use Rattle.survey.specs.declared.line.Line.{Line}
@@ -41,7 +41,7 @@ module _ (s : Survey) where
 
   -- what is made of a survey that has not ended, by what stands in its tables
   abbrev after : Command → Report Survey
-  after c = decided c (seenOf (speciesAt s (named c .species)) (opened (named c .stratum) (named c .species) s) s) (s .line) (s .factors) then make
+  after c = changeOf c (seenOf (speciesAt s (named c .species)) (opened (named c .stratum) (named c .species) s) s) (s .line) (s .factors) then make
 
   -- and so of every command
   made : (c : Command) → apply c s ≡ when (s .ended) 5 (after c)
@@ -84,7 +84,7 @@ opening-seen stratum id p q is-open before closed x y same = by-place (inside 0 
 
 seen-enough : (c : Command) (s : Survey) (there : Species) (before given : Bool) (l : Line) (factors : List ℕ)
     → (named c .species < 16 → speciesAt s (named c .species) ≡ there) → (named c .line ≡ true → before ≡ given)
-    → decided c (seenOf (speciesAt s (named c .species)) before s) l factors ≡ decided c (seenOf there given s) l factors
+    → changeOf c (seenOf (speciesAt s (named c .species)) before s) l factors ≡ changeOf c (seenOf there given s) l factors
 seen-enough (Command.Species id species) s there before given l factors same first =
     ap (λ (is : Bool). declaring id species is (gives (Change.Species id species))) (declared-seen id (speciesAt s id) there same)
 seen-enough (Command.Factor cm factor) s there before given l factors same first = refl
@@ -107,7 +107,7 @@ in-factors cm e = suc-le-suc (inside-true 7 cm 100 e .most)
 
 ruleset places = (passed, in-species, in-factors, leb-false, tt)
 
-has-place : (c : Command) (s : Survey) (there : Species) (before : Bool) (l : Line) (factors : List ℕ) → Gives (λ k. HasPlace k s) (decided c (seenOf there before s) l factors)
+has-place : (c : Command) (s : Survey) (there : Species) (before : Bool) (l : Line) (factors : List ℕ) → Gives (λ k. HasPlace k s) (changeOf c (seenOf there before s) l factors)
 has-place (Command.Species id species) s there before l factors = search places depth 12
 has-place (Command.Factor cm factor) s there before l factors = search places depth 12
 has-place (Command.Open stratum id p q) s there before l factors = search places depth 12
@@ -147,18 +147,19 @@ in-place s id below = ap (speciesAt s) (sym (mod-eq-of-lt below))
 abbrev Before : Named → Bool → Survey → Type 0
 Before name before s = name .line ≡ true → opened (name .stratum) (name .species) s ≡ before
 
-pub decides : (c : Command) (s : Survey) (name : Named) (before : Bool) (change : Change) → s .ended ≡ false → name ≡ named c → Before name before s
+pub decides : (c : Command) (s : Survey) (name : Named) (before : Bool) (change : Change) → name ≡ named c → Before name before s
     → told change ≡ decided c (seenOf (speciesAt s (name .species % 16)) before s) (s .line) (s .factors) → Made c s change
-decides c s name before change not-ended is-named is-before e =
+decides c s name before change is-named is-before e =
     let there : Named → Species = λ n. speciesAt s (n .species % 16) in
     let seen = subst (λ (n : Named). Before n before s) is-named is-before in
     let is-told = e ∙ ap (λ (n : Named). decided c (seenOf (there n) before s) (s .line) (s .factors)) is-named in
+    let such : Change → Type 0 = λ k. HasPlace k s in
     record {
-      place = told-place change s e (has-place c s (there name) before (s .line) (s .factors));
+      place = told-place change s e (when-such such (s .ended) 5 _ (λ not-ended. has-place c s (there name) before (s .line) (s .factors)));
       is =
-          made s c ∙ ap (λ (b : Bool). when b 5 (after s c)) not-ended
-          ∙ ap (λ (r : Report Change). r then λ k. changed k s)
-          (seen-enough c s (there (named c)) _ before (s .line) (s .factors) (in-place s (named c .species)) seen ∙ sym is-told)
+          made s c ∙ ap (λ (r : Report Change). when (s .ended) 5 (r then make s))
+          (seen-enough c s (there (named c)) _ before (s .line) (s .factors) (in-place s (named c .species)) seen)
+          ∙ sym (when-then (make s) (s .ended) 5 _ _ (λ not-ended. refl)) ∙ ap (λ (r : Report Change). r then make s) (sym is-told)
           ∙ told-makes change s;
     }
 

@@ -9,7 +9,7 @@ use mathlib.Core.List.{List, [], _∷_}
 use lib.Dec.{leb, ltb}
 use borrow.Author.Tests.{leb-true, leb-false, ltb-false}
 use Rattle.biomass.specs.Whole.{inside}
-use Rattle.biomass.specs.Report.{Report, gives, _then_}
+use Rattle.biomass.specs.Report.{Report, gives}
 use Rattle.biomass.specs.Limits.{mostMeasured, mostHeights, greatestArea}
 use Rattle.biomass.specs.Law.Report.{Inside, inside-true, both-true}
 use Rattle.biomass.specs.Law.Tariff.{single-tariff-range}

@@ -1,30 +1,34 @@
--- `survey::change::decide` meets its contract: by cases on the command.
+-- `survey::change::decide` meets its contract: a book that has ended takes no command, and else by cases on the command.
 use Prim.Native.Nat.{ℕ}
 use mathlib.Core.Path.{_≡_, _∙_, sym, ap}
 use mathlib.Core.Bool.{Bool}
 use mathlib.Core.List.{List}
 use Rattle.biomass.specs.Report.{Report}
-use Rattle.survey.specs.Change.{notes, decided}
+use Rattle.survey.specs.Change.{notes, changeOf}
 use Rattle.survey.specs.declared.command.Command.{Command}
 use Rattle.survey.specs.declared.line.Line.{Line}
 use Rattle.survey.specs.declared.change.Change.{Change}
 use Rattle.survey.specs.declared.change.Seen.{Seen}
+use Rattle.survey.proofs.Check.{stop-when, past-when}
 use borrow.Author.Needs.{needs}
 use Rattle.survey.proofs.change.decide.Statement.{statement}
 use Rattle.survey.proofs.change.decide.Tie as tie
 
 -- what the command is known to be, it is decided as
-by-case : {k d : Command} {x : Report Change} (v : Seen) (l : Line) (factors : List ℕ) → k ≡ d → x ≡ decided d v l factors → x ≡ decided k v l factors
-by-case v l factors is e = e ∙ ap (λ (k : Command). decided k v l factors) (sym is)
+by-case : {k d : Command} {x : Report Change} (v : Seen) (l : Line) (factors : List ℕ) → k ≡ d → x ≡ changeOf d v l factors → x ≡ changeOf k v l factors
+by-case v l factors is e = e ∙ ap (λ (k : Command). changeOf k v l factors) (sym is)
 
 -- and what became of the line is what the line's routine promises
 by-line : {answered after : Report Line} {x : Report Change} (active : Bool) → answered ≡ after → x ≡ notes active answered → x ≡ notes active after
 by-line active promise e = e ∙ ap (notes active) promise
 
+ruleset checks = (stop-when, past-when, by-case, by-line)
+
 pub decide-spec : {M : Type 1} → statement M
 decide-spec =
     tie.close
     (tie.spec
+    (λ c. search checks depth 6)
     (λ c. search needs)
     (λ c κs. tt)
     (λ c. search needs)
@@ -41,10 +45,10 @@ decide-spec =
     (λ c κs. tt)
     (λ c. search needs)
     (λ c κs. tt)
-    (λ c. search (by-case, by-line) depth 4)
-    (λ c. search (by-case, by-line) depth 4)
-    (λ c. search (by-case, by-line) depth 4)
-    (λ c. search (by-case, by-line) depth 4)
-    (λ c. search (by-case, by-line) depth 4)
-    (λ c. search (by-case, by-line) depth 4)
-    (λ c. search (by-case, by-line) depth 4))
+    (λ c. search checks depth 6)
+    (λ c. search checks depth 6)
+    (λ c. search checks depth 6)
+    (λ c. search checks depth 6)
+    (λ c. search checks depth 6)
+    (λ c. search checks depth 6)
+    (λ c. search checks depth 6))

@@ -81,7 +81,7 @@ unfolding opened
 made d =
     let seen = d .before .before .before in
     let named = seen .before .before .before in
-    decides _ _ (named .names .result) _ _ (not-ended (in-line d)) (named .names .ensures)
+    decides _ _ (named .names .result) _ _ (named .names .ensures)
     (λ is-line. ⊎-elim (λ w. sym (w .3 ∙ w .2 .ensures)) (λ w. absurd (true≢false (sym is-line ∙ w .0 .left))) (seen .if1 .came))
     (d .decide .ensures)
 
