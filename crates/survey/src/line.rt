@@ -96,7 +96,7 @@ impl Line {
     }
 
     // So many trees of a class more.
-    pub fn measured(mut self, class: u8, count: u16) -> Noted
+    pub fn measured(self, class: u8, count: u16) -> Noted
         ensures { λ r. ⌜ noted r ≡ measured class count self ⌝ }
     {
         let cm = class as u64;
@@ -117,13 +117,14 @@ impl Line {
         }
         let n = self.tally.n + trees;
         let squares = self.tally.squares + added;
-        self.tally.n = n;
-        self.tally.squares = squares;
-        Noted::Is(self)
+        let tally = Tally { n, squares };
+        let mut line = self;
+        line.tally = tally;
+        Noted::Is(line)
     }
 
     // One height tree more.
-    pub fn height(mut self, cm: u8, tenths: u16) -> Noted
+    pub fn height(self, cm: u8, tenths: u16) -> Noted
         ensures { λ r. ⌜ noted r ≡ height cm tenths self ⌝ }
     {
         let tariff = match tariff_of(self.species, cm, tenths) {
@@ -139,9 +140,10 @@ impl Line {
         }
         let number = self.heights.number + 1;
         let tariffs = self.heights.tariffs + tariff;
-        self.heights.number = number;
-        self.heights.tariffs = tariffs;
-        Noted::Is(self)
+        let heights = Heights { number, tariffs };
+        let mut line = self;
+        line.heights = heights;
+        Noted::Is(line)
     }
 
     // The row of a line without measured trees.
@@ -191,8 +193,8 @@ impl Line {
     }
 
     // The row of a line with measured trees and height trees, worked with the factor at its mean diameter.
-    fn some_row(self, factors: &[u8; 101]) -> Closed
-        ensures { λ r. ⌜ rowed r ≡ someRow (now (factors .entry)) self ⌝ }
+    fn some_row(self, factors: [u8; 101]) -> Closed
+        ensures { λ r. ⌜ rowed r ≡ someRow factors self ⌝ }
     {
         let d = match mean(self.tally.n, self.tally.squares) {
             Count::Is(d) => d,
@@ -227,6 +229,6 @@ impl Line {
         if self.heights.number == 0 {
             return Closed::Refused(Refusal::NoHeightTree);
         }
-        self.some_row(factors)
+        self.some_row(*factors)
     }
 }
