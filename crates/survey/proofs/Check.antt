@@ -5,7 +5,7 @@ use lib.Dec.{leb}
 use mathlib.Core.Path.{_≡_, _∙_, sym, ap, subst}
 use mathlib.Core.Bool.{Bool, true, false, not, cond}
 use native.Mathlib.Omega.{arith}
-use borrow.Author.Tests.{le-leb, lt-leb, lt-ltb, le-ltb, not-true}
+use borrow.Author.Tests.{eq-eqb, ne-eqb, le-leb, lt-leb, lt-ltb, le-ltb, not-true}
 use Rattle.biomass.specs.Whole.{inside}
 use Rattle.biomass.specs.Law.Report.{refuses, goes-on, held, stops, follows, true-inside}
 use Rattle.biomass.specs.Report.{Report, refused, _then_}
@@ -59,7 +59,7 @@ module _ {A : Type 0} {row : Report Row} {answer : Closed} (f : Row → Report A
 
 -- With those of `biomass`, the rules for `search` that close the answers of a chain of checks, wherever in the code a check stands
 pub ruleset survey-checks =
-    (stop-when, past-when, stop-told, past-told, refuses, goes-on, follows-noted, stops-noted, follows-row, stops-row, le-leb, lt-leb, lt-ltb, le-ltb)
+    (stop-when, past-when, stop-told, past-told, refuses, goes-on, follows-noted, stops-noted, follows-row, stops-row, eq-eqb, ne-eqb, le-leb, lt-leb, lt-ltb, le-ltb)
 
 -- What a change is known to be has its place in the survey's tables
 module _ {k : Change} (s : Survey) (place : HasPlace k s) where

@@ -16,11 +16,11 @@ opening-spec =
     tie.close
     (tie.spec
     (λ c κs. tt)
-    (λ c. search (survey-checks, begins) depth 14)
-    (λ c. search (survey-checks, begins) depth 14)
+    (λ c. search survey-checks depth 14)
+    (λ c. search survey-checks depth 14)
     (λ c κs. tt)
-    (λ c. search (survey-checks, begins) depth 14)
-    (λ c. search (survey-checks, begins) depth 14)
-    (λ c. search (survey-checks, begins) depth 14)
+    (λ c. search survey-checks depth 14)
+    (λ c. search survey-checks depth 14)
+    (λ c. search survey-checks depth 14)
     (λ c κs. tt)
     (λ c. search (survey-checks, begins) depth 14))
