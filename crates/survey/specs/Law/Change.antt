@@ -82,6 +82,7 @@ opening-seen stratum id p q is-open before closed x y same = by-place (inside 0 
         (same (suc-le-suc (inside-true 0 id 15 e .most)))
     by-place false e = refl
 
+-- and a command changes the same with what stands at its species' place, and with the answer about the line that it names, where it names one
 seen-enough : (c : Command) (s : Survey) (there : Species) (before given : Bool) (l : Line) (factors : List ℕ)
     → (named c .species < 16 → speciesAt s (named c .species) ≡ there) → (named c .line ≡ true → before ≡ given)
     → changeOf c (seenOf (speciesAt s (named c .species)) before s) l factors ≡ changeOf c (seenOf there given s) l factors
@@ -147,6 +148,7 @@ in-place s id below = ap (speciesAt s) (sym (mod-eq-of-lt below))
 abbrev Before : Named → Bool → Survey → Type 0
 Before name before s = name .line ≡ true → opened (name .stratum) (name .species) s ≡ before
 
+-- so what the code decides, on what it sees of any survey, is what the command makes of the survey
 pub decides : (c : Command) (s : Survey) (name : Named) (before : Bool) (change : Change) → name ≡ named c → Before name before s
     → told change ≡ decided c (seenOf (speciesAt s (name .species % 16)) before s) (s .line) (s .factors) → Made c s change
 decides c s name before change is-named is-before e =

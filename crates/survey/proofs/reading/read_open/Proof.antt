@@ -5,22 +5,13 @@ use Rattle.survey.proofs.Operands.{cut-short, complete}
 use Rattle.survey.proofs.reading.read_open.Statement.{statement}
 use Rattle.survey.proofs.reading.read_open.Tie as tie
 
-returns : tie.Need-returns
-unfolding openFrom
-returns c = let start = c .before .before in cut-short (start .args .book .now) (start .args .from) 10 (start .pre) _ (c .if1 .taken)
-
-returns-2 : tie.Need-returns-2
-unfolding openFrom
-returns-2 c =
-    let start = c .before .before .before .before .before .before in
-    rw (c .before .four .ensures, c .four2 .ensures) (complete (start .args .book .now) (start .args .from) 10 (start .pre) _ (omega arith))
-
 pub read-open-spec : {M : Type 1} → statement M
+unfolding openFrom
 read-open-spec =
     tie.close
     (tie.spec
     (λ c. omega arith)
-    returns
+    (λ c. search cut-short)
     (λ c. omega arith)
     (λ c. omega arith)
     (λ c. omega arith)
@@ -29,4 +20,4 @@ read-open-spec =
     (λ c. omega arith)
     (λ c κs. omega arith)
     (λ c. omega arith)
-    returns-2)
+    (λ c. rw (c .before .four .ensures, c .four2 .ensures) (search complete)))
