@@ -225,8 +225,9 @@ fn closing(seen: Seen, line: Line, factors: &[u8; 101]) -> Change
         Closed::Is(row) => row,
         Closed::Refused(why) => return Change::Refused(why),
     };
+    let at = seen.closed;
     // No survey reaches this with a line open.
-    if MOST_LINES <= seen.closed {
+    if MOST_LINES <= at {
         return Change::Refused(Refusal::Limit);
     }
     Change::Row(row)
