@@ -117,56 +117,11 @@ lines-holds c =
 loop-holds : tie.Need-loop-holds Inv-loop μ-loop Inv-lines μ-lines
 loop-holds c = (omega arith, c .before .lines .inv .0, c .before .lines .inv .2)
 
-loop-less : tie.Need-loop-less Inv-loop μ-loop Inv-lines μ-lines
-loop-less c = omega (arith, noted-on (c .before) .moves, noted-on (c .before) .inside)
-
 loop-again : tie.Need-loop-again Inv-loop μ-loop Inv-lines μ-lines
 loop-again c =
     let n = noted-on (c .before) in
     let at = c .before .before .before .before .before .loop in
     (omega (arith, n .moves, at .inv .0), n .inside, sym (n .plays) ∙ at .inv .2)
-
-mul-species : tie.Need-mul-species Inv-loop μ-loop Inv-lines μ-lines
-mul-species c = omega (arith, species-place _ (made (c .before .before .before) .place) (c .before .id .given .1))
-
-element-set-from-species : tie.Need-element-set-from-species Inv-loop μ-loop Inv-lines μ-lines
-element-set-from-species c = species-place _ (made (c .before .before .before) .place) (c .before .id .given .1)
-
-element-write-survey : tie.Need-element-write-survey Inv-loop μ-loop Inv-lines μ-lines
-element-write-survey c = factor-place _ (made (c .before .before .before) .place) (c .before .cm .given .1)
-
-mul-row : tie.Need-mul-row Inv-loop μ-loop Inv-lines μ-lines
-mul-row c = omega (arith, row-place _ (made (c .before .before .before) .place) (c .before .row .given .1))
-
-element-set-from-row : tie.Need-element-set-from-row Inv-loop μ-loop Inv-lines μ-lines
-element-set-from-row c = row-place _ (made (c .before .before .before) .place) (c .before .row .given .1)
-
-add-survey : tie.Need-add-survey Inv-loop μ-loop Inv-lines μ-lines
-add-survey c = omega (arith, row-place _ (made (c .before .before .before) .place) (c .before .row .given .1))
-
-lines-less : tie.Need-lines-less Inv-loop μ-loop Inv-lines μ-lines
-lines-less c = less (c .before .before .before) (c .before .id .given .1) refl
-
-lines-again : tie.Need-lines-again Inv-loop μ-loop Inv-lines μ-lines
-lines-again c = again (c .before .before .before) (c .before .id .given .1) refl refl
-
-lines-less-2 : tie.Need-lines-less-2 Inv-loop μ-loop Inv-lines μ-lines
-lines-less-2 c = less (c .before .before .before) (c .before .cm .given .1) refl
-
-lines-again-2 : tie.Need-lines-again-2 Inv-loop μ-loop Inv-lines μ-lines
-lines-again-2 c = again (c .before .before .before) (c .before .cm .given .1) refl refl
-
-lines-less-3 : tie.Need-lines-less-3 Inv-loop μ-loop Inv-lines μ-lines
-lines-less-3 c = less (c .before .before .before) (c .before .after2 .given .1) refl
-
-lines-again-3 : tie.Need-lines-again-3 Inv-loop μ-loop Inv-lines μ-lines
-lines-again-3 c = again (c .before .before .before) (c .before .after2 .given .1) refl refl
-
-lines-less-4 : tie.Need-lines-less-4 Inv-loop μ-loop Inv-lines μ-lines
-lines-less-4 c = less (c .before .before .before) (c .before .row .given .1) refl
-
-lines-again-4 : tie.Need-lines-again-4 Inv-loop μ-loop Inv-lines μ-lines
-lines-again-4 c = again (c .before .before .before) (c .before .row .given .1) refl refl
 
 returns : tie.Need-returns Inv-loop μ-loop Inv-lines μ-lines
 returns c =
@@ -212,7 +167,7 @@ play-spec =
     loop-holds
     (λ c κs. tt)
     (λ c. c .match .keys1)
-    loop-less
+    (λ c. omega (arith, noted-on (c .before) .moves, noted-on (c .before) .inside))
     loop-again
     (λ c. c .match .keys2)
     (λ c. c .match .keys3)
@@ -229,28 +184,28 @@ play-spec =
     (λ c κs. tt)
     (λ c. c .match3 .keys1)
     (λ c. omega arith)
-    mul-species
-    element-set-from-species
+    (λ c. omega (arith, species-place _ (made (c .before .before .before) .place) (c .before .id .given .1)))
+    (λ c. species-place _ (made (c .before .before .before) .place) (c .before .id .given .1))
     (λ c. c .match3 .keys2)
     (λ c. omega arith)
-    element-write-survey
+    (λ c. factor-place _ (made (c .before .before .before) .place) (c .before .cm .given .1))
     (λ c. c .match3 .keys3)
     (λ c. c .match3 .keys4)
-    mul-row
-    element-set-from-row
-    add-survey
+    (λ c. omega (arith, row-place _ (made (c .before .before .before) .place) (c .before .row .given .1)))
+    (λ c. row-place _ (made (c .before .before .before) .place) (c .before .row .given .1))
+    (λ c. omega (arith, row-place _ (made (c .before .before .before) .place) (c .before .row .given .1)))
     (λ c. c .match3 .keys5)
     (λ c κs. tt)
     (λ c. c .match3 .keys6)
     (λ c κs. tt)
-    lines-less
-    lines-again
-    lines-less-2
-    lines-again-2
-    lines-less-3
-    lines-again-3
-    lines-less-4
-    lines-again-4
+    (λ c. less (c .before .before .before) (c .before .id .given .1) refl)
+    (λ c. again (c .before .before .before) (c .before .id .given .1) refl refl)
+    (λ c. less (c .before .before .before) (c .before .cm .given .1) refl)
+    (λ c. again (c .before .before .before) (c .before .cm .given .1) refl refl)
+    (λ c. less (c .before .before .before) (c .before .after2 .given .1) refl)
+    (λ c. again (c .before .before .before) (c .before .after2 .given .1) refl refl)
+    (λ c. less (c .before .before .before) (c .before .row .given .1) refl)
+    (λ c. again (c .before .before .before) (c .before .row .given .1) refl refl)
     returns
     returns-2
     returns-3

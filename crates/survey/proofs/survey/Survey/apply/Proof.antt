@@ -20,9 +20,6 @@ made c =
     (λ is-line. ⊎-elim (λ w. sym (w .3 ∙ w .2 .ensures)) (λ w. absurd (true≢false (sym is-line ∙ w .0 .left))) (seen .if1 .came))
     (c .decide .ensures)
 
-changed-requires : tie.Need-changed-requires
-changed-requires c κs = made c .place
-
 returns : tie.Need-returns
 returns c = c .changed .ensures ∙ ap (leaves _) (sym (made (c .before) .is))
 
@@ -36,5 +33,5 @@ apply-spec =
     (λ c. search needs)
     (λ c κs. tt)
     (λ c κs. tt)
-    changed-requires
+    (λ c κs. made c .place)
     returns)

@@ -14,12 +14,6 @@ use Rattle.survey.proofs.survey.Survey.changed.Tie as tie
 by-case : {k d : Change} {x : After} (s : Survey) → k ≡ d → x ≡ leaves s (changed d s) → x ≡ leaves s (changed k s)
 by-case s is e = e ∙ ap (λ (k : Change). leaves s (changed k s)) (sym is)
 
-mul-row : tie.Need-mul-row
-mul-row c = omega (arith, row-place _ (c .before .before .before .pre) (c .before .change4 .given .1))
-
-add-self : tie.Need-add-self
-add-self c = omega (arith, row-place _ (c .before .before .before .pre) (c .before .change4 .given .1))
-
 pub changed-spec : {M : Type 1} → statement M
 changed-spec =
     tie.close
@@ -33,9 +27,9 @@ changed-spec =
     (λ c. search factor-place)
     (λ c. search needs)
     (λ c. search needs)
-    mul-row
+    (λ c. omega (arith, row-place _ (c .before .before .before .pre) (c .before .change4 .given .1)))
     (λ c. search row-place)
-    add-self
+    (λ c. omega (arith, row-place _ (c .before .before .before .pre) (c .before .change4 .given .1)))
     (λ c. search needs)
     (λ c. search needs)
     (λ c. search by-case)
