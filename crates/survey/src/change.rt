@@ -221,7 +221,8 @@ fn closing(seen: Seen, line: Line, factors: &[u8; 101]) -> Change
     if !seen.active {
         return Change::Refused(Refusal::NoLine);
     }
-    let row = match line.row(factors) {
+    let given = *factors;
+    let row = match line.row(given) {
         Closed::Is(row) => row,
         Closed::Refused(why) => return Change::Refused(why),
     };

@@ -220,8 +220,8 @@ impl Line {
     }
 
     // The line closed: its row.
-    pub fn row(self, factors: &[u8; 101]) -> Closed
-        ensures { λ r. ⌜ rowed r ≡ lineRow (now (factors .entry)) self ⌝ }
+    pub fn row(self, factors: [u8; 101]) -> Closed
+        ensures { λ r. ⌜ rowed r ≡ lineRow factors self ⌝ }
     {
         if self.tally.n == 0 {
             return Closed::Is(self.empty_row());
@@ -229,6 +229,6 @@ impl Line {
         if self.heights.number == 0 {
             return Closed::Refused(Refusal::NoHeightTree);
         }
-        self.some_row(*factors)
+        self.some_row(factors)
     }
 }

@@ -124,7 +124,8 @@ pub(crate) fn play(book: &[u8]) -> Played
                     before,
                     active: survey.active,
                     closed: survey.closed,
-                    ended: survey.ended,
+                    // After 07 no command is played.
+                    ended: false,
                 };
                 match decide(command, seen, line, &survey.factors) {
                     Change::Species(id, species) => {

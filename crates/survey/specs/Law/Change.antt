@@ -165,6 +165,15 @@ decides c s name before change is-named is-before e =
           ∙ told-makes change s;
     }
 
+-- where it is known that the book has not ended, that need not be looked up
+pub not-ended-seen : (c : Command) (s : Survey) (there : Species) (before : Bool) {r : Report Change} → s .ended ≡ false
+    → r ≡ decided c (record { there = there; before = before; active = s .active; closed = s .closed; ended = false }) (s .line) (s .factors)
+    → r ≡ decided c (seenOf there before s) (s .line) (s .factors)
+not-ended-seen c s there before not-ended e =
+    e
+    ∙ ap (λ (b : Bool). decided c (record { there = there; before = before; active = s .active; closed = s .closed; ended = b }) (s .line) (s .factors))
+    (sym not-ended)
+
 -- ---- the line's own commands
 
 own-is : {r q : Report Line} → own r ≡ own q → r ≡ q

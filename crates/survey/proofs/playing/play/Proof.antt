@@ -15,7 +15,7 @@ use Rattle.survey.specs.Survey.{fresh, withLine, withEnd, opened}
 use Rattle.survey.specs.Change.{changed}
 use Rattle.survey.specs.Playing.{Played, playFrom, play}
 use Rattle.survey.specs.Noting.{noting}
-use Rattle.survey.specs.Law.Change.{Made, decides}
+use Rattle.survey.specs.Law.Change.{Made, decides, not-ended-seen}
 use Rattle.survey.specs.Law.Playing.{plays-refused, plays-after-end, On, plays-taken, plays-declined, plays-unread, note-refused, plays-noted}
 use Rattle.survey.specs.declared.command.Command.{Command}
 use Rattle.survey.specs.declared.survey.Survey.{Survey}
@@ -83,7 +83,7 @@ made d =
     let named = seen .before .before .before in
     decides _ _ (named .names .result) _ _ (named .names .ensures)
     (λ is-line. ⊎-elim (λ w. sym (w .3 ∙ w .2 .ensures)) (λ w. absurd (true≢false (sym is-line ∙ w .0 .left))) (seen .if1 .came))
-    (d .decide .ensures)
+    (not-ended-seen (command-of d) (survey-at (in-line d)) _ _ (not-ended (in-line d)) (d .decide .ensures))
 
 -- so playing goes on from the survey with the change stored, where there is one
 module _ (d : tie.After-decide Inv-loop μ-loop Inv-lines μ-lines) {change : Change} {t : Survey} (is : d .decide .result ≡ change)
