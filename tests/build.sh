@@ -4,6 +4,9 @@ work=target/tests
 library=target/staticlib/libfieldbook.a
 mkdir -p "$work"
 
+# The crates that the library and the programs stand on.
+lower=(crates/powers crates/biomass crates/survey)
+
 # Shows what a command writes only where it fails.
 quietly() { # COMMAND...
     local log status
@@ -26,13 +29,13 @@ stale() { # BUILT CRATE...
 }
 
 build_library() {
-    ! stale "$library" crates/biomass crates/survey crates/fieldbook || need "the proved library" rt staticlib fieldbook
+    ! stale "$library" "${lower[@]}" crates/fieldbook || need "the proved library" rt staticlib fieldbook
 }
 
 build_programs() { # PROGRAM...
     local program old=()
     for program; do
-        if stale "target/bin/$program" crates/biomass crates/survey "crates/$program"; then old+=("$program"); fi
+        if stale "target/bin/$program" "${lower[@]}" "crates/$program"; then old+=("$program"); fi
     done
     [ "${#old[@]}" -eq 0 ] || need "the proved programs" rt check "${old[@]}"
 }

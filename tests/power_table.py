@@ -11,7 +11,7 @@ from decimal import Decimal, ROUND_FLOOR, localcontext
 from math import isqrt
 
 tests = pathlib.Path(__file__).resolve().parent
-source = tests.parent / 'crates' / 'biomass' / 'src'
+crates = tests.parent / 'crates'
 results = []
 
 
@@ -24,9 +24,9 @@ def check(name, faults, compared):
     print(f'ok      {name}: {compared} comparisons' if good else f'FAILED  {name}: {len(faults)} of {compared} comparisons differ')
 
 
-def constant(file, name, kind):
+def constant(crate, file, name, kind):
     """The numbers of the constant array `name`; none where the source has no such array of just this type."""
-    text = re.sub(r'//[^\n]*', '', (source / file).read_text())
+    text = re.sub(r'//[^\n]*', '', (crates / crate / 'src' / file).read_text())
     found = re.findall(rf'^const {name}: {re.escape(kind)} = \[(.*?)^\];', text, re.M | re.S)
     if len(found) != 1 or re.search(r'[^\d\s,_\-\[\]]', found[0]):
         return []
@@ -50,15 +50,15 @@ def differences(what, found, expected):
 # k is in 10^-10 t, all else in mg, that is 10^-9 t.
 crown = printed('crown.txt', (10, 9, 9))
 root = printed('root.txt', (9, 9, 9))
-check('source: k, a and b of the crown groups as printed', differences('CROWN', constant('crown.rt', 'CROWN', '[[i64; 3]; 8]'), crown), len(crown))
-check('source: b, a and b of the root groups as printed', differences('ROOT', constant('root.rt', 'ROOT', '[[i64; 3]; 6]'), root), len(root))
+check('source: k, a and b of the crown groups as printed', differences('CROWN', constant('biomass', 'crown.rt', 'CROWN', '[[i64; 3]; 8]'), crown), len(crown))
+check('source: b, a and b of the root groups as printed', differences('ROOT', constant('biomass', 'root.rt', 'ROOT', '[[i64; 3]; 6]'), root), len(root))
 
 # Powers by decimals of 60 digits, of which the last alone can be off by one.
 diameters = range(70, 501)
 with localcontext() as context:
     context.prec = 60
     by_decimals = [int((Decimal(d).scaleb(-1) ** Decimal('2.4767')).scaleb(5).to_integral_value(ROUND_FLOOR)) for d in diameters]
-table = constant('crown.rt', 'POWER', '[u64; 431]')
+table = constant('powers', 'crown.rt', 'POWER', '[u64; 431]')
 check('source: the 431 crown powers against 60-digit decimals', differences('POWER', table, by_decimals), len(by_decimals))
 
 # The rule itself, by whole numbers of some 90,000 digits.

@@ -11,7 +11,7 @@ use lib.Signed.{nonNeg}
 use mir.Syntax.{w64}
 use mir.Val.{Fits}
 use borrow.Author.Tests.{le-leb, lt-leb}
-use Rattle.biomass.specs.Units.{leastD, greatestD}
+use Rattle.powers.specs.Diameter.{leastD, greatestD}
 use Rattle.biomass.specs.Ends.{Ends, range, entry, curve, straight}
 use Rattle.biomass.specs.Law.Report.{Inside}
 use Rattle.biomass.specs.Law.Ends.{Coefficient, Rising}

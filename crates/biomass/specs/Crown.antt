@@ -1,12 +1,13 @@
--- Step 5, the crown.
-use Prim.Native.Nat.{ℕ, _*_, _^_}
+-- Step 5, the crown. Its w is powers/specs/Crown.antt.
+use Prim.Native.Nat.{ℕ, _^_}
 use mathlib.Core.Bool.{cond}
 use mathlib.Core.List.{List, [], _∷_}
 use lib.Dec.{leb}
 use lib.IntN.{ℤ, pos, negℤ}
-use Rattle.biomass.specs.Whole.{inside, wholeRoot}
+use Rattle.powers.specs.Crown.{w}
+use Rattle.biomass.specs.Whole.{inside}
 use Rattle.biomass.specs.Report.{Report, gives, unless}
-use Rattle.biomass.specs.Units.{crownLimit}
+use Rattle.powers.specs.Diameter.{crownLimit}
 use Rattle.biomass.specs.Mean.{dInRange}
 use Rattle.biomass.specs.Ends.{Ends, range, entry, curve, straight}
 use Rattle.biomass.specs.declared.units.BiomassRange.{BiomassRange}
@@ -40,21 +41,6 @@ a g = entry crownTable g 1
 
 abbrev pub b : ℕ → ℤ
 b g = entry crownTable g 2
-
--- The crown power is the diameter in cm to the power 24767/10000
-abbrev pub crownExponent : ℕ
-crownExponent = 24767
-
-abbrev pub crownDegree : ℕ
-crownDegree = 10000
-
--- w counts units of 10^-5 of it: in w^10000 they come to 10^50000, of which d's unit takes 10^24767
-abbrev pub crownShift : ℕ
-crownShift = 25233
-
--- "w is the greatest whole number with w^10000 ≤ 10^25233·d^24767"
-unfoldable pub w : ℕ → ℕ
-w d = wholeRoot crownDegree (10 ^ crownShift * d ^ crownExponent)
 
 -- "For d ≤ 500, .. low = k·w div 10^6, high = k·(w+1) div 10^6 + 1. .. For d > 500, low = (10a + b·d) div 10, high = low + 1."
 -- (Every group, larches too: docs/DECISIONS.md, decision 1.)

@@ -5,7 +5,7 @@ use mathlib.Core.List.{List, []}
 use lib.ListN.{getD}
 use lib.IntN.{ℤ, pos, _+ℤ_, _*ℤ_, natAbs}
 use Rattle.biomass.specs.Whole.{_div_}
-use Rattle.biomass.specs.Units.{unitsToCm}
+use Rattle.powers.specs.Diameter.{unitsToCm}
 use Rattle.biomass.specs.declared.units.BiomassRange.{BiomassRange}
 
 pub record Ends : Type 0 where

@@ -4,10 +4,10 @@ use mathlib.Core.Bool.{cond}
 use lib.Dec.{leb}
 use lib.IntN.{ℤ, pos, _+ℤ_, _-ℤ_, _*ℤ_}
 use Rattle.biomass.specs.Whole.{square}
-use Rattle.biomass.specs.Units.{unitsToCm, crownLimit, rootLimit}
+use Rattle.powers.specs.Diameter.{unitsToCm, crownLimit, rootLimit}
 use Rattle.biomass.specs.Stem.{areaScale, B}
 use Rattle.biomass.specs.Crown as Crown
-use Rattle.biomass.specs.Crown.{crownExponent, crownDegree}
+use Rattle.powers.specs.Crown.{crownExponent, crownDegree}
 use Rattle.biomass.specs.Root as Root
 use Rattle.biomass.specs.Fraction.{Fraction, whole, _⊕_, _⊖_, _⊗_, _over_}
 use Rattle.biomass.specs.declared.tree.AverageTree.{AverageTree}

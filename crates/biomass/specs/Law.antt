@@ -13,7 +13,7 @@
 --     Declines: unless-declines, then-declines    and what is made of checks and of other reports, with their numbers alone
 --     Fraction                                sums, shares and the order of fractions
 
--- numbers: greatest, root and div; differences of naturals
+-- numbers: div; differences of naturals
 pub mod Whole
 pub mod Signed
 -- reports: from the code's tests to a report, and a report that gives a figure taken apart
@@ -23,7 +23,6 @@ pub mod Gives
 pub mod Tariff
 pub mod Mean
 pub mod Ends
-pub mod Scaled
 pub mod Power
 pub mod Stem
 pub mod Crown

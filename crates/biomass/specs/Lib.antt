@@ -7,8 +7,7 @@
 -- `abbrev` and `unfoldable` matter only to proofs.
 pub mod Whole
 pub mod Report
--- the unit of a diameter and the diameters that the steps name, and the limits of a line
-pub mod Units
+-- the limits of a line
 pub mod Limits
 -- steps 1 to 7, and the project
 pub mod Tariff

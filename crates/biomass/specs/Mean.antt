@@ -4,9 +4,10 @@ use mathlib.Core.Bool.{Bool}
 use mathlib.Core.Path.{_≡_}
 use native.Mathlib.Omega.{arith}
 use lib.Dec.{leb}
-use Rattle.biomass.specs.Whole.{inside, square, greatest}
+use Rattle.biomass.specs.Whole.{inside, square}
+use Rattle.powers.specs.Greatest.{greatest}
 use Rattle.biomass.specs.Report.{Report, gives, unless}
-use Rattle.biomass.specs.Units.{leastD, greatestD}
+use Rattle.powers.specs.Diameter.{leastD, greatestD}
 use Rattle.biomass.specs.Limits.{mostMeasured}
 
 -- "400·S": S is in square cm, and 400 squares of half a unit of d make one

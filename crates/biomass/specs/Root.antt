@@ -4,9 +4,10 @@ use mathlib.Core.Bool.{cond}
 use mathlib.Core.List.{List, [], _∷_}
 use lib.Dec.{leb}
 use lib.IntN.{ℤ, pos, negℤ}
-use Rattle.biomass.specs.Whole.{inside, wholeRoot}
+use Rattle.biomass.specs.Whole.{inside}
+use Rattle.powers.specs.Greatest.{wholeRoot}
 use Rattle.biomass.specs.Report.{Report, gives, unless}
-use Rattle.biomass.specs.Units.{rootLimit}
+use Rattle.powers.specs.Diameter.{rootLimit}
 use Rattle.biomass.specs.Mean.{dInRange}
 use Rattle.biomass.specs.Ends.{Ends, range, entry, curve, straight}
 use Rattle.biomass.specs.declared.units.BiomassRange.{BiomassRange}

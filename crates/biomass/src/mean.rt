@@ -2,9 +2,9 @@
 use super::answer::Count;
 use super::answer::Refusal;
 use super::limits::MOST_MEASURED;
-use super::units::GREATEST_D;
-use super::units::LEAST_D;
 use super::whole::within;
+use powers::diameter::GREATEST_D;
+use powers::diameter::LEAST_D;
 ghost use mathlib.Core.Path.{_≡_};
 ghost use Prim.Native.Nat.{_*_};
 ghost use Rattle.biomass.specs.Report.{count};

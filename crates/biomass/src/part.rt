@@ -1,7 +1,7 @@
 // The two forms that a crown and a root take: a coefficient times a power of the diameter, and above a certain diameter a straight line.
 use super::units::BiomassRange;
 use super::units::Milligrams;
-use super::units::UNITS_TO_CM;
+use powers::diameter::UNITS_TO_CM;
 ghost use mathlib.Core.Path.{_≡_};
 ghost use Prim.Native.Nat.{_<_, _^_};
 ghost use lib.IntN.{pos};

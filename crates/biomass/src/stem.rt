@@ -2,10 +2,10 @@
 use super::answer::Biomass;
 use super::answer::Refusal;
 use super::units::BiomassRange;
-use super::units::GREATEST_D;
-use super::units::LEAST_D;
 use super::units::Milligrams;
 use super::whole::within;
+use powers::diameter::GREATEST_D;
+use powers::diameter::LEAST_D;
 ghost use mathlib.Core.Path.{_≡_};
 ghost use Prim.Native.Nat.{_≤_};
 ghost use lib.IntN.{pos};

@@ -1,6 +1,7 @@
 // Whole-number helpers that several figures share.
 ghost use mathlib.Core.Path.{_≡_};
-ghost use Rattle.biomass.specs.Whole.{inside, wholeRoot};
+ghost use Rattle.biomass.specs.Whole.{inside};
+ghost use Rattle.powers.specs.Greatest.{wholeRoot};
 
 // Whether x is from lo to hi, ends included.
 pub fn within(lo: u64, x: u64, hi: u64) -> bool

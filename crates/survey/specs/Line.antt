@@ -4,7 +4,7 @@ use Prim.Native.Nat.{ℕ, _+_, _*_, _/_}
 use mathlib.Core.List.{List}
 use lib.ListN.{getD}
 use Rattle.biomass.specs.Report.{Report}
-use Rattle.biomass.specs.Units.{unitsToCm}
+use Rattle.powers.specs.Diameter.{unitsToCm}
 use Rattle.biomass.specs.Tariff.{singleTariff}
 use Rattle.biomass.specs.Mean.{meanOf}
 use Rattle.biomass.specs.Trees.{treesOf}

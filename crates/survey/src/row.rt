@@ -10,7 +10,7 @@ pub struct Row {
     pub species: u8,
     // The line tariff T.
     pub tariff: u8,
-    // The mean diameter d, biomass::units::UNITS_TO_CM to the cm.
+    // The mean diameter d, powers::diameter::UNITS_TO_CM to the cm.
     pub d: u16,
     // The estimated trees N, in hundredths.
     pub trees: u32,

@@ -5,7 +5,7 @@ use mathlib.Core.Path.{_≡_, _∙_, ap}
 use mathlib.Core.Bool.{Bool}
 use Rattle.biomass.specs.Whole.{inside}
 use Rattle.biomass.specs.Report.{Report, gives, unless, _then_}
-use Rattle.biomass.specs.Units.{leastD, greatestD}
+use Rattle.powers.specs.Diameter.{leastD, greatestD}
 use Rattle.biomass.specs.Limits.{mostMeasured, mostHeights, mostEstimated, greatestArea}
 use Rattle.biomass.specs.Tariff.{lineTariff}
 use Rattle.biomass.specs.Mean.{mean, meanOf}

@@ -5,8 +5,9 @@ use mathlib.Core.Path.{refl}
 use lib.Dec.{lit≤, lit<}
 use lib.IntN.{pos}
 use lib.Signed.{_≤ℤ_}
-use Rattle.biomass.specs.Units.{greatestD, crownLimit}
-use Rattle.biomass.specs.Crown.{crownTable, k, a, b, w, crownEnds}
+use Rattle.powers.specs.Diameter.{greatestD, crownLimit}
+use Rattle.biomass.specs.Crown.{crownTable, k, a, b, crownEnds}
+use Rattle.powers.specs.Crown.{w}
 use Rattle.biomass.specs.Law.Power.{greatestW, w-most}
 use Rattle.biomass.specs.Law.Ends.{Bounded, Rising, Coefficient, Group, group, coefficient-not-below, line-rising, part-bounded}
 

@@ -12,7 +12,7 @@ use lib.IntN.{ℤ, pos, negsuc, negℤ, natAbs, _+ℤ_, _*ℤ_}
 use lib.Signed.{leZ, _≤ℤ_, leZ-yes}
 use borrow.Author.Tests.{leb-true, leb-false}
 use Rattle.biomass.specs.Whole.{_div_}
-use Rattle.biomass.specs.Units.{unitsToCm, greatestD}
+use Rattle.powers.specs.Diameter.{unitsToCm, greatestD}
 use Rattle.biomass.specs.Ends.{Ends, entry, curve, straight}
 use Rattle.biomass.specs.Law.Report.{both-true}
 use Rattle.biomass.specs.Law.Signed.{Diff, parts, add, neg, mul, same}

@@ -12,8 +12,9 @@ use lib.IntN.{ℤ, pos, natAbs, _+ℤ_, _*ℤ_}
 use lib.Signed.{_≤ℤ_}
 use Rattle.biomass.specs.Whole.{_div_}
 use Rattle.biomass.specs.Report.{gives}
-use Rattle.biomass.specs.Units.{unitsToCm, crownLimit, rootLimit}
+use Rattle.powers.specs.Diameter.{unitsToCm, crownLimit, rootLimit}
 use Rattle.biomass.specs.Ends.{Ends, curve, straight}
+use Rattle.powers.specs.Crown.{w}
 use Rattle.biomass.specs.Crown as Crown
 use Rattle.biomass.specs.Crown.{crownEnds}
 use Rattle.biomass.specs.Root as Root
@@ -96,13 +97,13 @@ module _ (g d : ℕ) (power : Given) (in-table : g ≤ 7) where
   pub crown-not-under : (d ≤ crownLimit → NotBelowCrown d power) → whole (crownEnds g d .low) ≼ exactCrown g d power
   unfolding crownEnds exactCrown
   crown-not-under not-below =
-      part-not-under (Crown.k g) (Crown.a g) (Crown.b g) (crown-k g in-table) 10 (lit< tt) power d crownLimit (Crown.w d)
+      part-not-under (Crown.k g) (Crown.a g) (Crown.b g) (crown-k g in-table) 10 (lit< tt) power d crownLimit (w d)
       (λ on-curve. crown-power-not-under d power (not-below on-curve))
 
   pub crown-not-over : (d ≤ crownLimit → NotAboveCrown d power) → exactCrown g d power ≼ whole (crownEnds g d .high)
   unfolding crownEnds exactCrown
   crown-not-over not-above =
-      part-not-over (Crown.k g) (Crown.a g) (Crown.b g) (crown-k g in-table) 10 (lit< tt) power d crownLimit (Crown.w d)
+      part-not-over (Crown.k g) (Crown.a g) (Crown.b g) (crown-k g in-table) 10 (lit< tt) power d crownLimit (w d)
       (λ on-curve. crown-power-not-over d power (not-above on-curve))
 
 module _ (g d : ℕ) (power : Given) (in-table : g ≤ 5) where

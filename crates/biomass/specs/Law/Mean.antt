@@ -9,10 +9,10 @@ use lib.Dec.{leb}
 use borrow.Author.Tests.{le-leb, lt-leb, leb-true}
 use Rattle.biomass.specs.Whole.{square}
 use Rattle.biomass.specs.Report.{gives}
-use Rattle.biomass.specs.Units.{leastD, greatestD}
+use Rattle.powers.specs.Diameter.{leastD, greatestD}
 use Rattle.biomass.specs.Limits.{mostMeasured}
 use Rattle.biomass.specs.Mean.{squareScale, IsMean, meanOf, mean}
-use Rattle.biomass.specs.Law.Whole.{greatest-is, greatest-passes, le-greatest}
+use Rattle.powers.specs.Law.Greatest.{greatest-is, greatest-passes, le-greatest}
 use Rattle.biomass.specs.Law.Report.{Inside}
 use Rattle.biomass.specs.Law.Gives.{passed, figure-is}
 

@@ -4,19 +4,19 @@
 -- power, t^m·d^e ≤ r^m·u^e, and (w·t)^m ≤ (10^5·r)^m follows, hence w·t ≤ 10^5·r; the other end goes the same way, and w and w + 1, over
 -- 10^5, are themselves such fractions. This is shown once, for any m, c and e, so that no such power is computed. Both rise with d.
 use mathlib.Core.Path.{_≡_, refl}
-use mathlib.Core.Bool.{Bool, true}
 use Prim.Native.Nat.{ℕ, zero, suc, _+_, _*_, _^_, _≤_, _<_}
 use native.Mathlib.Nat.{pow-zero, pow-suc, pow-lt-pow-left, pow-le-pow-left, one-le-pow, le-trans, mul-mul-mul-comm, mul-le-mul-left, mul-le-mul-right, le-of-mul-le-mul-right, mul-suc, mul-zero, not-le-of-lt, lt-of-not-le, le-of-suc-le-suc, le-of-eq}
 use native.Mathlib.Omega.{arith}
 use lib.Dec.{lit<, lit≤}
 use lib.Pow.{pow-add}
-use Rattle.biomass.specs.Whole.{wholeRoot}
-use Rattle.biomass.specs.Units.{unitsToCm, crownLimit, rootLimit}
-use Rattle.biomass.specs.Crown.{crownExponent, crownDegree, crownShift, w}
+use Rattle.powers.specs.Greatest.{wholeRoot}
+use Rattle.powers.specs.Diameter.{unitsToCm, crownLimit, rootLimit}
+use Rattle.powers.specs.Crown.{crownExponent, crownDegree, crownShift, w}
 use Rattle.biomass.specs.Root.{rootShift, y}
 use Rattle.biomass.specs.Exact.{Given, NotBelowCrown, NotAboveCrown, NotBelowRoot, NotAboveRoot}
-use Rattle.biomass.specs.Law.Whole.{square-root-is, root-not-above, root-below, root-mono}
-use Rattle.biomass.specs.Law.Scaled.{near, tested, root-tested}
+use Rattle.powers.specs.Law.Greatest.{square-root-is, root-not-above, root-below, root-mono}
+use Rattle.powers.specs.Law.Scaled.{near, tested}
+use Rattle.powers.specs.Law.Crown.{w-is}
 
 -- ---- powers
 
@@ -102,14 +102,6 @@ next-w-not-below d = record { ge = next-not-under crownDegree crownShift crownEx
 -- a fraction that is not above the crown power is not above one that is not below it
 pub crown-powers-ordered : (d : ℕ) (p q : Given) → NotAboveCrown d p → NotBelowCrown d q → p .r * q .t ≤ q .r * p .t
 crown-powers-ordered d p q h k = ordered crownDegree crownExponent d (p .r) (p .t) (q .r) (q .t) (lit< tt) (h .le) (k .ge)
-
--- w is what passes the test by rounded powers (Law.Scaled). The bounds of 10 ^ crownShift are arguments, so that they are computed once for a list
-abbrev pub testedW : ℕ → ℕ → Bool
-testedW = tested 15 crownDegree crownExponent (near 15 0 10 crownShift) (near 15 1 10 crownShift)
-
-pub w-is : (d x : ℕ) → testedW d x ≡ true → w d ≡ x
-unfolding w
-w-is = root-tested 15 crownDegree crownShift crownExponent (lit< tt) (lit< tt) (lit< tt) (lit< tt)
 
 w-rises : {d d′ : ℕ} → d ≤ d′ → w d ≤ w d′
 unfolding w

@@ -5,7 +5,7 @@ use mathlib.Core.Path.{refl}
 use lib.Dec.{lit≤, lit<}
 use lib.IntN.{pos}
 use lib.Signed.{_≤ℤ_}
-use Rattle.biomass.specs.Units.{greatestD, rootLimit}
+use Rattle.powers.specs.Diameter.{greatestD, rootLimit}
 use Rattle.biomass.specs.Root.{rootTable, curveB, lineA, lineB, y, rootEnds}
 use Rattle.biomass.specs.Law.Power.{greatestY, y-most}
 use Rattle.biomass.specs.Law.Ends.{Bounded, Rising, Coefficient, Group, group, coefficient-not-below, line-rising, part-bounded}

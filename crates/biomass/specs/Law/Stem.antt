@@ -10,7 +10,7 @@ use mathlib.Core.Path.{_≡_, refl, ap, _∙_}
 use lib.Dec.{leb·zero}
 use lib.IntN.{pos, negsuc, _+ℤ_, _*ℤ_}
 use Rattle.biomass.specs.Whole.{_div_}
-use Rattle.biomass.specs.Units.{leastD, greatestD}
+use Rattle.powers.specs.Diameter.{leastD, greatestD}
 use Rattle.biomass.specs.Stem.{areaScale, G, A, z, VL, VH, stemEnds}
 use Rattle.biomass.specs.Law.Ends.{Bounded}
 use Rattle.biomass.specs.Law.Signed.{parts, add, mul, same, pos-minus, pos-minus-more}

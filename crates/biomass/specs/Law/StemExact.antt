@@ -6,7 +6,7 @@ use native.Mathlib.Nat.{mul-le-mul-right}
 use native.Mathlib.Omega.{arith}
 use mathlib.Core.Path.{_≡_}
 use lib.IntN.{pos, subℕ}
-use Rattle.biomass.specs.Units.{leastD, greatestD}
+use Rattle.powers.specs.Diameter.{leastD, greatestD}
 use Rattle.biomass.specs.Stem.{areaScale, stemEnds}
 use Rattle.biomass.specs.Fraction.{Fraction, whole, _⊕_, _⊖_, _⊗_, _over_, _≼_}
 use Rattle.biomass.specs.Exact.{exactStem}

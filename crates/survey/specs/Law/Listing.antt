@@ -6,7 +6,7 @@ use mathlib.Core.Bool.{true, false}
 use mathlib.Core.List.{List, [], _∷_, _++_, map}
 use lib.ListN.{length, drop, set, replicate}
 use borrow.Author.Tests.{le-ltb}
-use Rattle.biomass.specs.Whole.{greatest}
+use Rattle.powers.specs.Greatest.{greatest}
 use Rattle.biomass.specs.Tariff.{singleTariff, lineTariff}
 use Rattle.biomass.specs.Mean.{meanOf, mean}
 use Rattle.biomass.specs.Trees.{trees}

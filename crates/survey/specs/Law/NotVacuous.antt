@@ -11,7 +11,7 @@ use lib.ListN.{getD}
 use lib.Dec.{eqb, eqb·suc-zero}
 use lib.IntN.{pos}
 use Rattle.biomass.specs.Ends.{between}
-use Rattle.biomass.specs.Crown.{w}
+use Rattle.powers.specs.Crown.{w}
 use Rattle.biomass.specs.Root.{y}
 use Rattle.biomass.specs.Project.{projectOf}
 use Rattle.biomass.specs.Fraction.{Fraction, whole, _over_, _≼_}

@@ -9,7 +9,7 @@ use lib.ListN.{length, take, drop}
 use lib.Dec.{lit≤, lit<}
 use lib.IntN.{pos}
 use borrow.Author.Tests.{le-ltb}
-use Rattle.biomass.specs.Units.{crownLimit, rootLimit}
+use Rattle.powers.specs.Diameter.{crownLimit, rootLimit}
 use Rattle.biomass.specs.Trees as Trees
 use Rattle.biomass.specs.Fraction.{whole}
 use Rattle.biomass.specs.Exact.{Given, exactStem, exactCrown, exactRoot}

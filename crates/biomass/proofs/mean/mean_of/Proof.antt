@@ -6,7 +6,7 @@ use native.Mathlib.Nat.{mul-le-mul, lt-of-le-of-lt}
 use mathlib.Core.Path.{_≡_, sym}
 use lib.Dec.{lit<}
 use Rattle.biomass.specs.Whole.{square}
-use Rattle.biomass.specs.Units.{leastD, greatestD}
+use Rattle.powers.specs.Diameter.{leastD, greatestD}
 use Rattle.biomass.specs.Limits.{mostMeasured}
 use Rattle.biomass.specs.Mean.{squareScale}
 use Rattle.biomass.specs.Law.Mean.{mean-between, holds-at-least, fails-past-greatest}

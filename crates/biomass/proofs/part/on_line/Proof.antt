@@ -6,7 +6,7 @@ use mathlib.Core.Path.{_≡_, _∙_, subst}
 use lib.IntN.{ℤ, pos, natAbs, _+ℤ_, _*ℤ_}
 use mir.Syntax.{w64}
 use mir.Val.{toZ}
-use Rattle.biomass.specs.Units.{unitsToCm, greatestD}
+use Rattle.powers.specs.Diameter.{unitsToCm, greatestD}
 use Rattle.biomass.proofs.Small.{Small, local, fits, kept, plus, times, numeral, double, natural}
 use Rattle.biomass.proofs.part.on_line.Statement.{statement}
 use Rattle.biomass.proofs.part.on_line.Tie as tie

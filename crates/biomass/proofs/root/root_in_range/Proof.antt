@@ -3,7 +3,7 @@ use Prim.Native.Nat.{ℕ, _^_, _≤_, _<_}
 use native.Mathlib.Omega.{arith}
 use mathlib.Core.Path.{_≡_}
 use lib.Dec.{lit<}
-use Rattle.biomass.specs.Units.{rootLimit}
+use Rattle.powers.specs.Diameter.{rootLimit}
 use Rattle.biomass.specs.Root.{rootTable, y, rootEnds}
 use Rattle.biomass.specs.Law.Root.{greatestB, root-b, root-rising}
 use Rattle.biomass.specs.Law.Power.{y-most}

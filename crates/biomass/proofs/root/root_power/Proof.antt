@@ -3,10 +3,10 @@ use Prim.Native.Nat.{ℕ, _*_, _^_, _≤_}
 use native.Mathlib.Nat.{mul-le-mul, mul-le-mul-left, pow-suc, lt-of-le-of-lt}
 use mathlib.Core.Path.{_≡_, _∙_, ap}
 use lib.Dec.{lit<}
-use Rattle.biomass.specs.Whole.{wholeRoot}
-use Rattle.biomass.specs.Units.{rootLimit}
+use Rattle.powers.specs.Greatest.{wholeRoot}
+use Rattle.powers.specs.Diameter.{rootLimit}
 use Rattle.biomass.specs.Root.{y}
-use Rattle.biomass.specs.Law.Whole.{pow-two}
+use Rattle.powers.specs.Law.Greatest.{pow-two}
 use Rattle.biomass.proofs.root.root_power.Statement.{statement}
 use Rattle.biomass.proofs.root.root_power.Tie as tie
 

@@ -1,6 +1,6 @@
 -- `biomass::stem::stem` meets its contract: each test of the code is the definition's.
 use Prim.Native.Nat.{ℕ, _≤_}
-use Rattle.biomass.specs.Units.{leastD, greatestD}
+use Rattle.powers.specs.Diameter.{leastD, greatestD}
 use Rattle.biomass.specs.Stem.{stem}
 use Rattle.biomass.specs.Law.Report.{Inside, ranges, ranged}
 use Rattle.biomass.specs.Law.Stem.{InRange}

@@ -4,7 +4,7 @@ use Prim.Native.Nat.{ℕ, _+_, _-_, _*_, _^_, _≤_, _<_}
 use native.Mathlib.Omega.{arith}
 use native.Mathlib.Nat.{mul-le-mul}
 use mathlib.Core.Path.{_≡_, sym}
-use Rattle.biomass.specs.Law.Whole.{square-root-is}
+use Rattle.powers.specs.Law.Greatest.{square-root-is}
 use Rattle.biomass.proofs.whole.square_root.Statement.{statement}
 use Rattle.biomass.proofs.whole.square_root.Tie as tie
 

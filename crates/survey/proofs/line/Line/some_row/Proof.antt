@@ -6,7 +6,7 @@ use mathlib.Core.Path.{_≡_, _∙_, sym, ap}
 use borrow.Author.Needs.{needs}
 use borrow.Author.Tests.{eq-eqb, ne-eqb, le-leb, lt-leb}
 use Rattle.biomass.specs.Report.{count}
-use Rattle.biomass.specs.Units.{unitsToCm, leastD, greatestD}
+use Rattle.powers.specs.Diameter.{unitsToCm, leastD, greatestD}
 use Rattle.biomass.specs.Tariff.{lineTariff}
 use Rattle.biomass.specs.Mean.{mean}
 use Rattle.biomass.specs.Law.Report.{Inside, stop-unless, past-unless, follows-count, stops-count}

@@ -1,4 +1,4 @@
--- The unit of a diameter d, its range, and where the crown and the root change from a curve to a straight line: src/units.rt.
+-- The unit of a diameter d, its range, and where the crown and the root change from a curve to a straight line: src/diameter.rt.
 use Prim.Native.Nat.{ℕ}
 
 -- "d = tenths of a cm": so many of them to the cm

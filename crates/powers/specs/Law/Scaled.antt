@@ -10,8 +10,8 @@ use native.Mathlib.Omega.{arith}
 use lib.Dec.{leb, ltb}
 use lib.Pow.{pow-add, pow-pos}
 use borrow.Author.Tests.{ltb-true}
-use Rattle.biomass.specs.Whole.{wholeRoot}
-use Rattle.biomass.specs.Law.Whole.{root-is}
+use Rattle.powers.specs.Greatest.{wholeRoot}
+use Rattle.powers.specs.Law.Greatest.{root-is}
 
 -- ---- scaled numbers
 

@@ -1,0 +1,3 @@
+-- The rule of a table, proved once.
+pub mod Table
+pub mod Power
