@@ -1,6 +1,6 @@
 /*
  * Every function of bindings/c/fieldbook.h, called as the header has it, in C and in C++: document 01's marked lines
- * and its listing. The status is 0 where all hold.
+ * and its listing; and its version. The status is 0 where all hold.
  */
 #include "fieldbook.h"
 
@@ -19,6 +19,13 @@ static void holds(int condition, const char *what) {
 /* The first command of document 01's listing, the oak. */
 static const uint8_t oak[] = {0x01, 0x03, 0x07, 0x05, 0x38, 0x03, 0x81, 0xac, 0xb0, 0x01, 0x33,
                               0x0d, 0x78, 0xff, 0xff, 0x2a, 0x04, 0xff, 0xff, 0x1f, 0xcb};
+
+/* The text is the three numbers. */
+static void version(void) {
+    char text[64];
+    snprintf(text, sizeof text, "%d.%d.%d", FIELDBOOK_VERSION_MAJOR, FIELDBOOK_VERSION_MINOR, FIELDBOOK_VERSION_PATCH);
+    holds(strcmp(FIELDBOOK_VERSION, text) == 0, "the version");
+}
 
 static int are(const uint64_t ends[FIELDBOOK_ENDS], uint64_t low, uint64_t high) {
     return ends[FIELDBOOK_LOW] == low && ends[FIELDBOOK_HIGH] == high;
@@ -75,6 +82,7 @@ static void books(void) {
 }
 
 int main(void) {
+    version();
     tariffs_and_trees();
     biomass();
     commands();

@@ -40,6 +40,9 @@ pub use figures::{
 };
 pub use refusal::{Refusal, Refused};
 
+/// The version of this crate, the C header and the book's format together; CHANGELOG.md has what raises it.
+pub const VERSION: &str = env!("CARGO_PKG_VERSION");
+
 /// The functions as C has them, without their unsafe calls: numbers in, numbers into a place that the caller lends, and
 /// 0 or the number of a refusal back. After a refusal the lent numbers are 0, unless something else is said.
 pub mod raw {

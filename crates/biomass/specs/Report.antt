@@ -19,6 +19,11 @@ abbrev pub unless : {A : Type 0} → Bool → ℕ → Report A → Report A
 unless true n r = r
 unless false n r = refused n
 
+-- and the other way: where the test holds, the refusal n
+abbrev pub when : {A : Type 0} → Bool → ℕ → Report A → Report A
+when true n r = refused n
+when false n r = r
+
 -- what is made of a figure, or the refusal as it stands
 infixl 20 _then_
 abbrev pub _then_ : {A B : Type 0} → Report A → (A → Report B) → Report B

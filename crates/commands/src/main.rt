@@ -5,14 +5,14 @@
 //
 // The commands are printed as they stand. Whether their operands are in range, whether the book has its end, and whether
 // commands follow it, is for totalling to judge: a book that is listed here to its last byte may still be refused there.
+use codec::command::Command;
+use codec::command::Species;
+use codec::reading::Reading;
+use codec::refusal::Refusal;
 use libc::STDIN_FILENO;
 use libc::STDOUT_FILENO;
-use survey::command::Command;
-use survey::command::Species;
 use survey::reader::command_at;
 use survey::reader::read_through;
-use survey::reading::Reading;
-use survey::refusal::Refusal;
 ghost use mathlib.Core.Path.{_≡_};
 ghost use lib.IntN.{natAbs};
 

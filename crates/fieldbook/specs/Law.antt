@@ -16,21 +16,20 @@ use lib.ListN.{length, getD}
 use borrow.Author.Tests.{lt-ltb, le-ltb, eqb-true, eq-eqb}
 use Rattle.biomass.specs.Report.{Report, refused, gives, _then_}
 use Rattle.biomass.specs.Law.Gives.{never, figure-is, number-is, test-passed, made}
-use Rattle.biomass.specs.Law.Declines.{Declines, Six, SixOrThirteen, gives-declines, unless-declines, then-declines, six-declines, six-or-thirteen-declines}
-use Rattle.survey.specs.Bytes.{AllBytes, signed, unsigned}
-use Rattle.survey.specs.Command.{Fits, FitsFour, SpeciesFits}
-use Rattle.survey.specs.Reading.{read}
-use Rattle.survey.specs.Writing.{fitsAt, write}
+use Rattle.biomass.specs.Law.Declines.{Declines, Six, SixOrThirteen, gives-declines, unless-declines, then-declines, six-declines, six-or-thirteen-declines, cond-declines}
+use Rattle.codec.specs.Bytes.{AllBytes, signed, unsigned}
+use Rattle.codec.specs.Command.{Fits, FitsFour, SpeciesFits}
+use Rattle.codec.specs.Reading.{read}
+use Rattle.codec.specs.Writing.{fitsAt, write}
 use Rattle.survey.specs.AsWritten.{isIn}
 use Rattle.survey.specs.Sheet.{rowLength, rowFrom, findRow}
 use Rattle.survey.specs.Total.{Answer, refusedAt, totalled, total}
-use Rattle.survey.specs.Law.Bytes.{unsigned-fits, signed-unsigned, signed-fits}
-use Rattle.survey.specs.Law.Checks.{cond-declines}
+use Rattle.codec.specs.Law.Bytes.{unsigned-fits, signed-unsigned, signed-fits}
 use Rattle.survey.specs.Law.Reach.{read-declines}
-use Rattle.survey.specs.Law.RoundTrip.{read-is-encoded, write-read, read-write}
+use Rattle.codec.specs.Law.RoundTrip.{read-is-encoded, write-read, read-write}
 use Rattle.survey.specs.Law.Total.{ofTotalling, refusals-of-totalling}
-use Rattle.survey.specs.declared.command.Command.{Command}
-use Rattle.survey.specs.declared.command.Command.the-variants.{Species, Factor, Open, Measured, Height, Close, End}
+use Rattle.codec.specs.declared.command.Command.{Command}
+use Rattle.codec.specs.declared.command.Command.the-variants.{Species, Factor, Open, Measured, Height, Close, End}
 use Rattle.survey.specs.declared.total.Totals.{Totals}
 use Rattle.fieldbook.specs.Numbers.{extended, numbers, oneByte, twoBytes, fourBytes, speciesOf, cut, same, commandOf}
 use Rattle.fieldbook.specs.Layout.{refusal, bookRefusal, totals, told, command, writeNumbers, bufferAfter}

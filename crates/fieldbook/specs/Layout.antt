@@ -6,10 +6,10 @@ use lib.ListN.{getD}
 use Rattle.biomass.specs.Report.{Report, refused, gives, _then_}
 use Rattle.biomass.specs.declared.units.BiomassRange.{BiomassRange}
 use Rattle.biomass.specs.declared.units.CarbonRange.{CarbonRange}
-use Rattle.survey.specs.Writing.{write}
-use Rattle.survey.specs.Writing as Writing
+use Rattle.codec.specs.Writing.{write}
+use Rattle.codec.specs.Writing as Writing
 use Rattle.survey.specs.Total.{Answer, refusedAt, totalled}
-use Rattle.survey.specs.declared.command.Command.{Command}
+use Rattle.codec.specs.declared.command.Command.{Command}
 use Rattle.survey.specs.declared.row.Row.{Row}
 use Rattle.fieldbook.specs.Numbers.{numbers, commandOf}
 

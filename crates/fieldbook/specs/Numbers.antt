@@ -6,11 +6,11 @@ use mathlib.Core.List.{List, [], _∷_}
 use lib.Dec.{ltb, eqb}
 use lib.ListN.{getD}
 use Rattle.biomass.specs.Report.{Report, refused, gives, unless, _then_}
-use Rattle.survey.specs.Refusal.{number}
-use Rattle.survey.specs.Bytes.{signed, unsigned}
-use Rattle.survey.specs.declared.command.Species as Declared
-use Rattle.survey.specs.declared.command.Command.{Command}
-use Rattle.survey.specs.declared.command.Command.the-variants.{Species, Factor, Open, Measured, Height, Close, End}
+use Rattle.codec.specs.Refusal.{number}
+use Rattle.codec.specs.Bytes.{signed, unsigned}
+use Rattle.codec.specs.declared.command.Species as Declared
+use Rattle.codec.specs.declared.command.Command.{Command}
+use Rattle.codec.specs.declared.command.Command.the-variants.{Species, Factor, Open, Measured, Height, Close, End}
 use Rattle.fieldbook.specs.declared.commands.Made.{Made}
 
 -- from 32 bits to 64: the upper half of the one is the uppermost part of the other (Law: natural-wide, negative-wide: so it is two's complement)

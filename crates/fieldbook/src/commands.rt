@@ -1,18 +1,18 @@
 // Reading and writing one command. A command passes as nine numbers: its byte, its operands in the order of the book, and 0
 // for each that it does not have. Signed operands are in two's complement, of 64 bits.
-use survey::bytes::bits_of;
-use survey::bytes::signed_of;
-use survey::command::Command;
-use survey::command::Species;
+use codec::bytes::bits_of;
+use codec::bytes::signed_of;
+use codec::command::Command;
+use codec::command::Species;
+use codec::reading::Reading;
+use codec::refusal::Refusal;
+use codec::writing::Written;
+use codec::writing::write;
 use survey::reader::command_at;
-use survey::reading::Reading;
-use survey::refusal::Refusal;
-use survey::writing::Written;
-use survey::writing::write;
 ghost use mathlib.Core.Path.{_≡_};
 ghost use Prim.Native.Nat.{_%_};
-ghost use Rattle.survey.specs.Bytes.{signed, unsigned};
-ghost use Rattle.survey.specs.Reading.{read, placeAfter};
+ghost use Rattle.codec.specs.Bytes.{signed, unsigned};
+ghost use Rattle.codec.specs.Reading.{read, placeAfter};
 ghost use Rattle.fieldbook.specs.Numbers.{extended, numbers, speciesOf, cut, made, same, commandOf};
 ghost use Rattle.fieldbook.specs.Layout.{refusal, command, writeNumbers, nextPlace, bufferAfter};
 

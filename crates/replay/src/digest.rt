@@ -1,10 +1,10 @@
 // A digest of numbers below 2^32, one after the other: 31 times the digest so far and the number, modulo 2^31 - 1.
-use survey::command::Command;
-use survey::command::Species;
+use codec::command::Command;
+use codec::command::Species;
+use codec::writing::write;
 use survey::line::Line;
 use survey::row::Row;
 use survey::survey::Survey;
-use survey::writing::write;
 
 pub struct Digest(pub u64);
 

@@ -9,17 +9,17 @@
 // second of two commands 07 in a row a new survey begins, so that a long stream plays many.
 mod digest;
 
+use codec::command::Command;
+use codec::reading::Reading;
+use codec::refusal::Refusal;
+use codec::writing::Written;
+use codec::writing::write;
 use digest::Digest;
 use libc::STDIN_FILENO;
 use libc::STDOUT_FILENO;
-use survey::command::Command;
 use survey::reader::command_at;
 use survey::reader::read_through;
-use survey::reading::Reading;
-use survey::refusal::Refusal;
 use survey::survey::Survey;
-use survey::writing::Written;
-use survey::writing::write;
 
 struct Play {
     // The place of the next command.

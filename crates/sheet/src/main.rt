@@ -1,9 +1,9 @@
 // Reads a field book from standard input, totals it and prints the sheet, as document 01 says under "Reading out": a line
 // for each row, then one for the project. Input longer than 65,536 bytes prints `too long` and nothing else; a refused
 // book prints the number of the refusal and its place.
+use codec::refusal::Refusal;
 use libc::STDIN_FILENO;
 use libc::STDOUT_FILENO;
-use survey::refusal::Refusal;
 use survey::row::Row;
 use survey::sheet::Found;
 use survey::sheet::SHEET_LENGTH;

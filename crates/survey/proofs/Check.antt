@@ -8,13 +8,13 @@ use native.Mathlib.Omega.{arith}
 use borrow.Author.Tests.{eq-eqb, ne-eqb, le-leb, lt-leb, lt-ltb, le-ltb, not-true}
 use Rattle.biomass.specs.Whole.{inside}
 use Rattle.biomass.specs.Law.Report.{refuses, goes-on, held, stops, follows, true-inside}
-use Rattle.biomass.specs.Report.{Report, refused, _then_}
-use Rattle.survey.specs.Refusal.{number, when}
+use Rattle.biomass.specs.Report.{Report, refused, _then_, when}
+use Rattle.codec.specs.Refusal.{number}
 use Rattle.survey.specs.Survey.{mostLines}
 use Rattle.survey.specs.Apply.{noted, rowed}
 use Rattle.survey.specs.Change.{HasPlace}
-use Rattle.survey.specs.declared.command.Species.{Species}
-use Rattle.survey.specs.declared.refusal.Refusal.{Refusal}
+use Rattle.codec.specs.declared.command.Species.{Species}
+use Rattle.codec.specs.declared.refusal.Refusal.{Refusal}
 use Rattle.survey.specs.declared.row.Row.{Row}
 use Rattle.survey.specs.declared.line.Line.{Line}
 use Rattle.survey.specs.declared.line.Noted.{Noted}

@@ -30,9 +30,9 @@ use denote.Struct.Laws as LL
 use denote.Struct.Rest.{own-put}
 use denote.Struct.Steps.{spelt}
 use denote.Triple.Walked.{says}
-use Rattle.survey.specs.Reading.{reading, read}
+use Rattle.codec.specs.Reading.{reading, read}
 use Rattle.survey.specs.declared.reader.BookReader.{BookReader}
-use Rattle.survey.specs.declared.reading.Reading.{Reading}
+use Rattle.codec.specs.declared.reading.Reading.{Reading}
 use Rattle.survey.proofs.reader.BookReader as T
 use Rattle.survey.proofs.reader.BookReader.Laws as T′
 

@@ -1,7 +1,3 @@
 -- Laws that the proofs of several routines share.
 pub mod Check
-pub mod Complement
-pub mod Operands
-pub mod Digits
-pub mod Growth
 pub mod Held

@@ -6,16 +6,16 @@ use mathlib.Core.Bool.{Bool, cond}
 use mathlib.Core.List.{List, [], _∷_}
 use lib.Dec.{leb, eqb}
 use Rattle.biomass.specs.Whole.{inside}
-use Rattle.biomass.specs.Report.{Report, refused, gives, unless, _then_}
+use Rattle.biomass.specs.Report.{Report, refused, gives, unless, _then_, when}
 use Rattle.biomass.specs.Limits.{mostMeasured, mostHeights, mostEstimated}
 use Rattle.biomass.specs.Tariff.{lineTariff}
 use Rattle.biomass.specs.Mean.{mean}
 use Rattle.biomass.specs.Trees.{trees}
 use Rattle.biomass.specs.Tree.{row}
-use Rattle.survey.specs.Refusal.{number, when}
+use Rattle.codec.specs.Refusal.{number}
 use Rattle.survey.specs.Line.{withTrees, withHeight, tariffOf, factorFor, treeWith, rowWith, emptyRow}
 use Rattle.survey.specs.Survey.{leaves, mostLines, withLine, withRow, declare, giveFactor, openLine, finish}
-use Rattle.survey.specs.declared.command.Command.{Command}
+use Rattle.codec.specs.declared.command.Command.{Command}
 use Rattle.survey.specs.declared.row.Row.{Row}
 use Rattle.survey.specs.declared.line.Line.{Line}
 use Rattle.survey.specs.declared.line.Noted.{Noted}

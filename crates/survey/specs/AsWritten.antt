@@ -5,7 +5,7 @@ use mathlib.Core.List.{List, [], _∷_}
 use lib.Dec.{eqb}
 use Rattle.biomass.specs.Report.{Report}
 use Rattle.survey.specs.Survey.{declare, giveFactor, openLine, measure, giveHeight, close, finish}
-use Rattle.survey.specs.declared.command.Command.{Command}
+use Rattle.codec.specs.declared.command.Command.{Command}
 use Rattle.survey.specs.declared.survey.Survey.{Survey}
 
 abbrev pub asWritten : Command → Survey → Report Survey

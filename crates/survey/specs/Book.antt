@@ -5,10 +5,10 @@ use mathlib.Core.List.{List, [], _∷_, _++_}
 use lib.ListN.{length}
 use lib.Dec.{leb}
 use Rattle.biomass.specs.Report.{Report, refused, gives, _then_}
-use Rattle.survey.specs.Refusal.{number}
-use Rattle.survey.specs.Command.{encode}
-use Rattle.survey.specs.Reading.{read}
-use Rattle.survey.specs.declared.command.Command.{Command}
+use Rattle.codec.specs.Refusal.{number}
+use Rattle.codec.specs.Command.{encode}
+use Rattle.codec.specs.Reading.{read}
+use Rattle.codec.specs.declared.command.Command.{Command}
 use Rattle.survey.specs.declared.reader.Through.{Through}
 
 -- the bytes of a list of commands

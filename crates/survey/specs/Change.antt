@@ -4,13 +4,13 @@ use Prim.Native.Nat.{ℕ, _<_}
 use mathlib.Core.Bool.{Bool, true, false}
 use mathlib.Core.List.{List}
 use lib.Dec.{ltb}
-use Rattle.biomass.specs.Report.{Report, refused, gives}
-use Rattle.survey.specs.Refusal.{number, when}
+use Rattle.biomass.specs.Report.{Report, refused, gives, when}
+use Rattle.codec.specs.Refusal.{number}
 use Rattle.survey.specs.Line.{begun, factorAt}
 use Rattle.survey.specs.Survey.{mostLines, withSpecies, withFactor, withOpened, withRow, withEnd, declaredAs, declaring, giving, opening, ending}
 use Rattle.survey.specs.Apply.{measured, height, lineRow, onOpen, keeping}
-use Rattle.survey.specs.declared.command.Species.{Species}
-use Rattle.survey.specs.declared.command.Command.{Command}
+use Rattle.codec.specs.declared.command.Species.{Species}
+use Rattle.codec.specs.declared.command.Command.{Command}
 use Rattle.survey.specs.declared.line.Line.{Line}
 use Rattle.survey.specs.declared.survey.Survey.{Survey}
 use Rattle.survey.specs.declared.change.Change.{Change}

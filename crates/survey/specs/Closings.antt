@@ -6,7 +6,7 @@ use Rattle.biomass.specs.Report.{Report, refused, gives}
 use Rattle.survey.specs.Book.{reach}
 use Rattle.survey.specs.Survey.{leaves, fresh}
 use Rattle.survey.specs.AsWritten.{asWritten}
-use Rattle.survey.specs.declared.command.Command.{Command}
+use Rattle.codec.specs.declared.command.Command.{Command}
 use Rattle.survey.specs.declared.survey.Survey.{Survey}
 
 -- the closing that a command is, if it is one and is taken

@@ -1,7 +1,4 @@
 -- What is proved of the definitions, each law once, for this crate's proofs and for the layer above.
---     RoundTrip: write-read, read-write       what is written is read back, and what is read and written again is the same bytes
---     RoundTrip: reads-back, writes-back      the same as the promises of writing and reading say it, where they refuse too
---     RoundTrip: write-keeps, write-keeps-length, refused-keeps    writing leaves every other byte and the buffer's length as they were; refused, every byte
 --     Book: read-all-encoded, encoded-read-all    the same of whole books: a list's encoding reads back as the list, and a book that reads through is its list's encoding
 --     Book: encode-all-one                    so two lists with the same bytes are the same list
 --     Reach: stops-there, reach-encoded       a book reads as far as its first refusal, and the bytes up to there are its commands' encoding
@@ -47,8 +44,6 @@
 --     Witness                                 two of them again, at one command, and that what applying promises contradicts them
 
 -- a command's bytes, and books
-pub mod Bytes
-pub mod RoundTrip
 pub mod Sheet
 pub mod Reach
 pub mod Book

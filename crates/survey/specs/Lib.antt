@@ -4,14 +4,7 @@
 -- counted from 0, and z past its end, `take k l` and `drop k l` are the first k of l and the rest, and `set l i x` is l with x at i. A list of checks is
 -- read from the top: `unless test n` is the refusal n where the test fails, `when test n` where it holds, and else what follows; `first then λ x. rest` is
 -- the rest with the figure x that the first gives, or the first's refusal.
-pub mod Refusal
 -- a command's bytes, and books
-pub mod Bytes
-pub mod Command
-pub mod Reading
-pub mod Writing
-pub mod Encoded
-pub mod RoundTrip
 pub mod Book
 -- lines and surveys
 pub mod Line

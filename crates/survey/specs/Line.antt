@@ -12,7 +12,7 @@ use Rattle.biomass.specs.Ends.{between}
 use Rattle.biomass.specs.Tree.{averageTree, treeOf, rowOf}
 use Rattle.biomass.specs.declared.units.BiomassRange.{BiomassRange}
 use Rattle.biomass.specs.declared.tree.AverageTree.{AverageTree}
-use Rattle.survey.specs.declared.command.Species.{Species}
+use Rattle.codec.specs.declared.command.Species.{Species}
 use Rattle.survey.specs.declared.row.Row.{Row}
 use Rattle.survey.specs.declared.line.Tally.{Tally}
 use Rattle.survey.specs.declared.line.Heights.{Heights}

@@ -4,9 +4,9 @@ use mathlib.Core.List.{List, [], _∷_}
 use lib.IntN.{pos, negℤ}
 use Rattle.biomass.specs.Ends.{between}
 use Rattle.survey.specs.Book.{encodeAll}
-use Rattle.survey.specs.declared.command.Species as Declared
-use Rattle.survey.specs.declared.command.Command.{Command}
-use Rattle.survey.specs.declared.command.Command.the-variants.{Species, Factor, Open, Measured, Height, Close, End}
+use Rattle.codec.specs.declared.command.Species as Declared
+use Rattle.codec.specs.declared.command.Command.{Command}
+use Rattle.codec.specs.declared.command.Command.the-variants.{Species, Factor, Open, Measured, Height, Close, End}
 use Rattle.survey.specs.declared.row.Row.{Row}
 use Rattle.survey.specs.declared.total.Totals.{Totals}
 

@@ -3,8 +3,8 @@
 use Prim.Native.Nat.{ℕ}
 use mathlib.Core.List.{List}
 use Rattle.biomass.specs.Report.{Report, refused, gives, _then_}
-use Rattle.survey.specs.Refusal.{number}
-use Rattle.survey.specs.Reading.{read}
+use Rattle.codec.specs.Refusal.{number}
+use Rattle.codec.specs.Reading.{read}
 use Rattle.survey.specs.Change.{Own, own, notOwn, ownOf}
 use Rattle.survey.specs.declared.line.Line.{Line}
 use Rattle.survey.specs.declared.playing.Noting.{Noting}

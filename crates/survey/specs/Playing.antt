@@ -6,13 +6,13 @@ use mathlib.Core.List.{List, [], _∷_}
 use lib.ListN.{length}
 use lib.Dec.{ltb}
 use Rattle.biomass.specs.Report.{Report, refused, gives, _then_}
-use Rattle.survey.specs.Refusal.{number}
-use Rattle.survey.specs.Command.{encode}
-use Rattle.survey.specs.Reading.{read}
+use Rattle.codec.specs.Refusal.{number}
+use Rattle.codec.specs.Command.{encode}
+use Rattle.codec.specs.Reading.{read}
 use Rattle.survey.specs.Survey.{fresh}
 use Rattle.survey.specs.Apply.{apply}
 use Rattle.survey.specs.declared.survey.Survey.{Survey}
-use Rattle.survey.specs.declared.command.Command.{Command}
+use Rattle.codec.specs.declared.command.Command.{Command}
 use Rattle.survey.specs.declared.survey.Outcome.{Outcome}
 use Rattle.survey.specs.declared.playing.Played as Code
 use Rattle.survey.specs.declared.playing.Halt.{Halt}

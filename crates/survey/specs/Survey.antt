@@ -7,12 +7,12 @@ use lib.ListN.{getD, set, take, replicate}
 use lib.Dec.{leb, ltb, eqb}
 use lib.IntN.{pos}
 use Rattle.biomass.specs.Whole.{inside}
-use Rattle.biomass.specs.Report.{Report, refused, gives, unless, _then_}
+use Rattle.biomass.specs.Report.{Report, refused, gives, unless, _then_, when}
 use Rattle.biomass.specs.Limits.{mostMeasured, mostHeights, mostEstimated, greatestArea}
 use Rattle.biomass.specs.declared.tree.AverageTree.{AverageTree}
-use Rattle.survey.specs.Refusal.{number, when}
+use Rattle.codec.specs.Refusal.{number}
 use Rattle.survey.specs.Line.{begun, withTrees, withHeight, tariffOf, T-of, d-of, N-of, factorAt, factorFor, treeWith, Estimate, noTrees, estimatedRow, emptyRow}
-use Rattle.survey.specs.declared.command.Species.{Species}
+use Rattle.codec.specs.declared.command.Species.{Species}
 use Rattle.survey.specs.declared.row.Row.{Row}
 use Rattle.survey.specs.declared.line.Line.{Line}
 use Rattle.survey.specs.declared.survey.Survey.{Survey}

@@ -7,8 +7,8 @@ use lib.Dec.{ltb}
 use Rattle.biomass.specs.Ends.{between}
 use Rattle.biomass.specs.Project.{projectOf}
 use Rattle.biomass.specs.declared.units.BiomassRange.{BiomassRange}
-use Rattle.survey.specs.Refusal.{number}
-use Rattle.survey.specs.Writing.{laidAt}
+use Rattle.codec.specs.Refusal.{number}
+use Rattle.codec.specs.Bytes.{storedAt}
 use Rattle.survey.specs.AsWritten.{asWritten}
 use Rattle.survey.specs.Playing.{Played, ended, stopped, playBy}
 use Rattle.survey.specs.Sheet.{sheetLength, sheetBytes, rowsOf}
@@ -78,7 +78,7 @@ total book sheet = answerInto sheet (playBy asWritten book)
 -- "The sheet keeps every byte. On acceptance .. the rows stand from byte 0 on, and only the rows' bytes change."
 abbrev pub laidBy : List ℕ → Played → List ℕ
 laidBy sheet (stopped n at) = sheet
-laidBy sheet (ended s) = laidAt sheet 0 (sheetBytes (rowsOf s))
+laidBy sheet (ended s) = storedAt sheet 0 (sheetBytes (rowsOf s))
 
 -- that sheet after a book that was played so
 abbrev pub laidInto : List ℕ → Played → List ℕ

@@ -10,7 +10,7 @@ use Rattle.biomass.specs.Law.Report.{Inside}
 use Rattle.biomass.specs.Law.Tree.{RowBounds}
 use Rattle.survey.specs.Line.{factorAt, emptyRow}
 use Rattle.survey.specs.Survey.{mostLines, noLine, speciesAt, declared, anyLine, opened}
-use Rattle.survey.specs.declared.command.Species.{Species}
+use Rattle.codec.specs.declared.command.Species.{Species}
 use Rattle.survey.specs.declared.row.Row.{Row}
 use Rattle.survey.specs.declared.line.Tally.{Tally}
 use Rattle.survey.specs.declared.line.Heights.{Heights}

@@ -1,16 +1,16 @@
 // What a command changes. It is decided on the few values of a survey that the command looks at, so that whoever plays a
 // book stores the change in its place and copies no survey. The checks of every command stand here, once; those of a line's
 // own commands stand with the line.
-use super::command::Command;
-use super::command::Species;
 use super::line::Closed;
 use super::line::Line;
 use super::line::Noted;
-use super::refusal::Refusal;
 use super::row::Row;
 use super::survey::MOST_LINES;
 use biomass::limits::GREATEST_AREA;
 use biomass::whole::within;
+use codec::command::Command;
+use codec::command::Species;
+use codec::refusal::Refusal;
 ghost use mathlib.Core.Path.{_≡_};
 ghost use lib.ListN.{take};
 ghost use lib.Dec.{ltb};

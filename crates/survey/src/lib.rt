@@ -1,16 +1,10 @@
 // The field book's commands, the survey that they make, and the totals of a whole book. The figures of a line come from
 // the crate `biomass`, of which only the promises are used here.
-pub mod bytes;
 mod change;
-pub mod command;
-mod encoding;
 pub mod line;
 mod playing;
 pub mod reader;
-pub mod reading;
-pub mod refusal;
 pub mod row;
 pub mod sheet;
 pub mod survey;
 pub mod total;
-pub mod writing;

@@ -1,7 +1,4 @@
 // A line: what is noted of it while it is open, and the row that it leaves.
-use super::command::Species;
-use super::refusal::Refusal;
-use super::refusal::of_figure;
 use super::row::Row;
 use biomass::answer::Biomass;
 use biomass::answer::Count;
@@ -16,6 +13,9 @@ use biomass::trees::trees;
 use biomass::units::BiomassRange;
 use biomass::units::Milligrams;
 use biomass::whole::within;
+use codec::command::Species;
+use codec::refusal::Refusal;
+use codec::refusal::of_figure;
 use powers::diameter::UNITS_TO_CM;
 ghost use mathlib.Core.Path.{_≡_};
 ghost use Prim.Native.Nat.{_≤_};

@@ -1,10 +1,10 @@
 // A reader that holds a book and a cursor, above the plain reader of one command.
-use super::reading::Reading;
-use super::reading::place_after;
-use super::reading::read;
-use super::refusal::Refusal;
+use codec::reading::Reading;
+use codec::reading::place_after;
+use codec::reading::read;
+use codec::refusal::Refusal;
 ghost use mathlib.Core.Path.{_≡_};
-ghost use Rattle.survey.specs.Reading.{reading, read, placeAfter};
+ghost use Rattle.codec.specs.Reading.{reading, read, placeAfter};
 ghost use Rattle.survey.specs.Book.{reach, through, counted};
 
 // A book, and the place of the command that is read next.

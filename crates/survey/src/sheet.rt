@@ -1,22 +1,18 @@
 // The sheet: the rows of the closed lines, one after the other, from byte 0 on in closing order.
-use super::bytes::eight;
-use super::bytes::four;
-use super::bytes::two;
-use super::encoding::Encoded;
-use super::encoding::lay;
-use super::refusal::Refusal;
 use super::row::ROW_LENGTH;
 use super::row::Row;
 use super::survey::MOST_LINES;
 use biomass::units::BiomassRange;
 use biomass::units::Milligrams;
+use codec::bytes::eight;
+use codec::bytes::four;
+use codec::bytes::store;
+use codec::bytes::two;
+use codec::refusal::Refusal;
 ghost use mathlib.Core.Path.{_≡_};
-ghost use mathlib.Core.List.{_++_};
 ghost use Prim.Native.Nat.{_+_, _≤_};
 ghost use lib.ListN.{length, take};
-ghost use Rattle.survey.specs.Bytes.{bytes};
-ghost use Rattle.survey.specs.Writing.{laidAt};
-ghost use Rattle.survey.specs.Encoded.{held};
+ghost use Rattle.codec.specs.Bytes.{storedAt};
 ghost use Rattle.survey.specs.Survey.{mostLines};
 ghost use Rattle.survey.specs.Sheet.{rowLength, sheetLength, rowBytes, sheetBytes, rowFrom, found, findRow};
 
@@ -29,38 +25,34 @@ pub enum Found {
     Refused(Refusal),
 }
 
-// A row's figures of one byte.
-fn encode_bytes(stratum: u8, species: u8, tariff: u8) -> Encoded
-    ensures { λ r. ⌜ (held r ≡ bytes 1 stratum ++ bytes 1 species ++ bytes 1 tariff) × (r .length ≡ 3) ⌝ }
+// Stores a row from a place on, where there is room for it.
+fn store_row(sheet: &mut [u8], at: usize, row: Row)
+    requires { ⌜ at + rowLength ≤ length (now sheet) ⌝ }
+    ensures { λ _. ⌜ now (sheet .exit) ≡ storedAt (now (sheet .entry)) at (rowBytes row) ⌝ }
 {
-    Encoded::new(stratum).one(species).one(tariff)
+    let species = store(sheet, at, 1, row.stratum as u64);
+    let tariff = store(sheet, species, 1, row.species as u64);
+    let d = store(sheet, tariff, 1, row.tariff as u64);
+    let trees = store(sheet, d, 2, row.d as u64);
+    let low = store(sheet, trees, 4, row.trees as u64);
+    let high = store(sheet, low, 8, row.biomass.low.0);
+    store(sheet, high, 8, row.biomass.high.0);
 }
 
-fn encode(row: Row) -> Encoded
-    ensures { λ r. ⌜ (held r ≡ rowBytes row) × (r .length ≡ rowLength) ⌝ }
-{
-    encode_bytes(row.stratum, row.species, row.tariff)
-        .two(row.d)
-        .four(row.trees)
-        .eight(row.biomass.low.0)
-        .eight(row.biomass.high.0)
-}
-
-// Lays so many rows.
-pub(crate) fn lay_rows(sheet: &mut [u8], rows: [Row; MOST_LINES], closed: usize)
+// Stores so many rows, one after the other.
+pub(crate) fn store_rows(sheet: &mut [u8], rows: [Row; MOST_LINES], closed: usize)
     requires { ⌜ (closed ≤ mostLines) × (sheetLength ≤ length (now sheet)) ⌝ }
-    ensures { λ _. ⌜ now (sheet .exit) ≡ laidAt (now (sheet .entry)) 0 (sheetBytes (take closed rows)) ⌝ }
+    ensures { λ _. ⌜ now (sheet .exit) ≡ storedAt (now (sheet .entry)) 0 (sheetBytes (take closed rows)) ⌝ }
 {
     let mut i: usize = 0;
     while i < closed {
-        let row = encode(rows[i]);
-        let bytes = row.bytes;
-        lay(sheet, ROW_LENGTH * i, bytes, ROW_LENGTH);
+        let row = rows[i];
+        store_row(sheet, ROW_LENGTH * i, row);
         i += 1;
     }
 }
 
-// The row in the bytes from a place on.
+// The row in the bytes from a place on, where they are all there.
 fn row_from(sheet: &[u8], at: usize) -> Row
     requires { ⌜ at + rowLength ≤ length (now sheet) ⌝ }
     ensures { λ r. ⌜ r ≡ rowFrom (now (sheet .entry)) at ⌝ }

@@ -1,10 +1,8 @@
 // Totalling a book into a lent sheet.
 use super::playing::play;
-use super::refusal::Refusal;
-use super::refusal::of_figure;
 use super::row::Row;
 use super::sheet::SHEET_LENGTH;
-use super::sheet::lay_rows;
+use super::sheet::store_rows;
 use super::survey::MOST_LINES;
 use super::survey::Outcome;
 use biomass::answer::Carbon;
@@ -12,10 +10,12 @@ use biomass::project::project;
 use biomass::units::BiomassRange;
 use biomass::units::CarbonRange;
 use biomass::units::Milligrams;
+use codec::refusal::Refusal;
+use codec::refusal::of_figure;
 ghost use mathlib.Core.Path.{_≡_};
 ghost use Prim.Native.Nat.{_≤_};
 ghost use lib.ListN.{length, take};
-ghost use Rattle.survey.specs.Writing.{laidAt};
+ghost use Rattle.codec.specs.Bytes.{storedAt};
 ghost use Rattle.survey.specs.Survey.{mostLines};
 ghost use Rattle.survey.specs.Sheet.{sheetLength, sheetBytes};
 ghost use Rattle.survey.specs.Law.Sums.{RowsSmall};
@@ -69,11 +69,11 @@ fn add(rows: [Row; MOST_LINES], closed: usize) -> Sums
     }
 }
 
-// So many rows laid, and their totals. The figures come first: where they were declined, the sheet would be as it was.
-fn lay_total(sheet: &mut [u8], rows: [Row; MOST_LINES], closed: usize) -> Totalled
+// So many rows stored, and their totals. The figures come first: where they were declined, the sheet would be as it was.
+fn total_rows(sheet: &mut [u8], rows: [Row; MOST_LINES], closed: usize) -> Totalled
     requires { ⌜ (closed ≤ mostLines) × RowsSmall (take closed rows) × (sheetLength ≤ length (now sheet)) ⌝ }
     ensures answer { λ r. ⌜ answer r ≡ totalled (totalOf (take closed rows)) ⌝ }
-    ensures laid { λ _. ⌜ now (sheet .exit) ≡ laidAt (now (sheet .entry)) 0 (sheetBytes (take closed rows)) ⌝ }
+    ensures laid { λ _. ⌜ now (sheet .exit) ≡ storedAt (now (sheet .entry)) 0 (sheetBytes (take closed rows)) ⌝ }
 {
     let sums = add(rows, closed);
     let trees = sums.trees;
@@ -87,7 +87,7 @@ fn lay_total(sheet: &mut [u8], rows: [Row; MOST_LINES], closed: usize) -> Totall
             };
         }
     };
-    lay_rows(sheet, rows, closed);
+    store_rows(sheet, rows, closed);
     Totalled::Is(Totals {
         rows: closed,
         trees,
@@ -114,7 +114,7 @@ pub fn total(book: &[u8], sheet: &mut [u8]) -> Totalled
         Outcome::Done => {
             let survey = played.survey;
             let rows = survey.rows;
-            lay_total(sheet, rows, survey.closed)
+            total_rows(sheet, rows, survey.closed)
         }
     }
 }

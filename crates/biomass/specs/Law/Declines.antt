@@ -2,11 +2,11 @@
 -- with such numbers, and of reports that are, declines with no other.
 use Prim.Native.Nat.{ℕ, _*_, _/_}
 use mathlib.Core.Path.{_≡_, refl, sym, ap, subst}
-use mathlib.Core.Bool.{Bool, true, false}
+use mathlib.Core.Bool.{Bool, true, false, cond}
 use mathlib.Core.Logic.{_⊎_, inl, inr, ⊎-elim}
 use lib.IntN.{ℤ, pos, negsuc}
 use Rattle.biomass.specs.Whole.{inside, _div_}
-use Rattle.biomass.specs.Report.{Report, refused, gives, unless, _then_}
+use Rattle.biomass.specs.Report.{Report, refused, gives, unless, when, _then_}
 use Rattle.biomass.specs.Limits.{mostMeasured, mostHeights, mostEstimated, greatestArea}
 use Rattle.biomass.specs.Tariff.{tariffSum, fromOneToFifty, singleTariff, lineTariff}
 use Rattle.biomass.specs.Mean.{mean, meanOf, dInRange}
@@ -41,6 +41,15 @@ module _ {A : Type 0} (such : ℕ → Type 0) where
   unless-declines true k rest this others n e = others refl n e
   unless-declines false k rest this others n e = subst such (number-is e) (this refl)
 
+  pub when-declines : (test : Bool) (k : ℕ) (rest : Report A) →
+      (test ≡ true → such k) → (test ≡ false → Declines such rest) → Declines such (when test k rest)
+  when-declines true k rest this others n e = subst such (number-is e) (this refl)
+  when-declines false k rest this others n e = others refl n e
+
+  pub cond-declines : (test : Bool) (r q : Report A) → Declines such r → Declines such q → Declines such (cond test r q)
+  cond-declines true r q this other = this
+  cond-declines false r q this other = other
+
   pub then-declines : {B : Type 0} (first : Report B) (next-of : B → Report A) →
       Declines such first → ((b : B) → Declines such (next-of b)) → Declines such (first then next-of)
   then-declines (refused k) next-of this others n e = this n (ap refused (number-is e))
@@ -53,6 +62,8 @@ module _ {A : Type 0} (such : ℕ → Type 0) where
   pub six-or-thirteen-declines : {r : Report A} → such 6 → such 13 → Declines SixOrThirteen r → Declines such r
   six-or-thirteen-declines six thirteen declines n e =
       ⊎-elim (λ is-six. subst such (sym is-six) six) (λ is-thirteen. subst such (sym is-thirteen) thirteen) (declines n e)
+
+pub ruleset declined = (when-declines, unless-declines, cond-declines, then-declines, gives-declines)
 
 -- a check with the number 6 before a report that declines with 6 alone
 six : {A : Type 0} (test : Bool) (rest : Report A) → Declines Six rest → Declines Six (unless test 6 rest)

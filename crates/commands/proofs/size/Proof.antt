@@ -6,7 +6,7 @@ use native.Mathlib.Omega.{arith}
 use mathlib.Core.Path.{_≡_, _∙_, ap, sym}
 use borrow.Author.Needs.{needs}
 use lib.IntN.{natAbs}
-use Rattle.survey.proofs.Complement.{Negative, Natural, is-negative, is-natural}
+use Rattle.codec.proofs.Complement.{Negative, Natural, is-negative, is-natural}
 use Rattle.commands.proofs.size.Statement.{statement}
 use Rattle.commands.proofs.size.Tie as tie
 

@@ -25,7 +25,7 @@ use Rattle.survey.specs.AsWritten.{asWritten}
 use Rattle.survey.specs.Apply.{mostSquares, mostTariffs, measured, height, worked, lineRow, applyMeasured, applyHeight, keeping, applyClose, apply}
 use Rattle.survey.specs.Valid.{ValidSpecies, ValidTally, ValidHeights, Valid}
 use Rattle.survey.specs.Law.Checks.{when-same, unless-same, when-then, unless-then, cond-then, then-then, passed-then, answered-then}
-use Rattle.survey.specs.declared.command.Command.{Command}
+use Rattle.codec.specs.declared.command.Command.{Command}
 use Rattle.survey.specs.declared.row.Row.{Row}
 use Rattle.survey.specs.declared.line.Tally.{Tally}
 use Rattle.survey.specs.declared.line.Heights.{Heights}

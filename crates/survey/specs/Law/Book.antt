@@ -11,11 +11,11 @@ use lib.Dec.{eqb}
 use borrow.Author.Tests.{eqb-true}
 use Rattle.biomass.specs.Report.{refused, gives}
 use Rattle.biomass.specs.Law.Gives.{never, figure-is}
-use Rattle.survey.specs.Bytes.{AllBytes}
+use Rattle.codec.specs.Bytes.{AllBytes}
 use Rattle.survey.specs.Book.{encodeAll, readAll, reach}
-use Rattle.survey.specs.Law.Bytes.{stands-taken}
+use Rattle.codec.specs.Law.Bytes.{stands-taken}
 use Rattle.survey.specs.Law.Reach.{stops-at-end, AllFit, reach-encoded, read-all-reach, reach-of-list}
-use Rattle.survey.specs.declared.command.Command.{Command}
+use Rattle.codec.specs.declared.command.Command.{Command}
 
 -- the encoding of a list of commands reads back as that list
 pub read-all-encoded : (cs : List Command) → AllFit cs → readAll (encodeAll cs) ≡ gives cs

@@ -9,16 +9,15 @@ use mathlib.Core.List.{List}
 use lib.Dec.{ltb}
 use borrow.Author.Tests.{leb-false}
 use Rattle.biomass.specs.Whole.{inside}
-use Rattle.biomass.specs.Report.{Report, refused, gives, _then_}
+use Rattle.biomass.specs.Report.{Report, refused, gives, _then_, when}
 use Rattle.biomass.specs.Law.Report.{inside-true}
-use Rattle.survey.specs.Refusal.{when}
 use Rattle.survey.specs.Line.{begun}
 use Rattle.survey.specs.Survey.{speciesAt, withState, withLine, speciesInRange, declaredAs, declaring, declare, giveFactor, opened, opening, openLine, finish}
 use Rattle.survey.specs.Apply.{measured, height, onOpen, onLine, applyMeasured, applyHeight, applyClose, apply}
 use Rattle.survey.specs.Change.{changed, HasPlace, told, named, seenOf, opens, notes, changeOf, decided, own, notOwn, ownOf}
 use Rattle.survey.specs.Law.Checks.{Gives, when-such, passed, when-then, unless-then, then-then, species-in-range}
-use Rattle.survey.specs.declared.command.Species.{Species}
-use Rattle.survey.specs.declared.command.Command.{Command}
+use Rattle.codec.specs.declared.command.Species.{Species}
+use Rattle.codec.specs.declared.command.Command.{Command}
 use Rattle.survey.specs.declared.line.Line.{Line}
 use Rattle.survey.specs.declared.survey.Survey.{Survey}
 use Rattle.survey.specs.declared.change.Change.{Change}

@@ -7,30 +7,14 @@ use mathlib.Core.Bool.{Bool, true, false, cond}
 use lib.Dec.{ltb, eqb}
 use borrow.Author.Tests.{ltb-true, lt-ltb, ne-eqb}
 use Rattle.biomass.specs.Whole.{inside}
-use Rattle.biomass.specs.Report.{Report, refused, gives, unless, _then_}
+use Rattle.biomass.specs.Report.{Report, refused, gives, unless, _then_, when}
 use Rattle.biomass.specs.Law.Report.{Inside, inside-true, true-inside, both-true}
-use Rattle.biomass.specs.Law.Gives.{never, figure-is, number-is}
-use Rattle.biomass.specs.Law.Declines.{Declines, gives-declines, unless-declines, then-declines}
-use Rattle.survey.specs.Refusal.{when}
+use Rattle.biomass.specs.Law.Gives.{never, figure-is}
 use Rattle.survey.specs.Survey.{speciesAt, speciesInRange, declared, isLine}
 use Rattle.survey.specs.Valid.{ValidSpecies}
-use Rattle.survey.specs.declared.command.Species.{Species}
+use Rattle.codec.specs.declared.command.Species.{Species}
 use Rattle.survey.specs.declared.row.Row.{Row}
 use Rattle.survey.specs.declared.survey.Survey.{Survey}
-
--- ---- what a check is declined with: its number where its test stops, and those of the rest where it does not (biomass's Declines has `unless`)
-
-module _ {A : Type 0} (such : ℕ → Type 0) where
-  pub when-declines : (test : Bool) (k : ℕ) (rest : Report A) →
-      (test ≡ true → such k) → (test ≡ false → Declines such rest) → Declines such (when test k rest)
-  when-declines true k rest this others n e = subst such (number-is e) (this refl)
-  when-declines false k rest this others n e = others refl n e
-
-  pub cond-declines : (test : Bool) (r q : Report A) → Declines such r → Declines such q → Declines such (cond test r q)
-  cond-declines true r q this other = this
-  cond-declines false r q this other = other
-
-pub ruleset declined = (when-declines, unless-declines, cond-declines, then-declines, gives-declines)
 
 -- ---- what a report gives: its figure is such where it is past the last check, by all that the checks before it say
 

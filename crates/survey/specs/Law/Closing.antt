@@ -17,7 +17,7 @@ use Rattle.survey.specs.Apply.{apply}
 use Rattle.survey.specs.Valid.{Within, Valid}
 use Rattle.survey.specs.Law.Checks.{Gives, passed, declared-true}
 use Rattle.survey.specs.Law.AsWritten.{estimate-by, line-operands, not-zero, as-written}
-use Rattle.survey.specs.declared.command.Command.{Command}
+use Rattle.codec.specs.declared.command.Command.{Command}
 use Rattle.survey.specs.declared.line.Line.{Line}
 use Rattle.survey.specs.declared.survey.Survey.{Survey}
 

@@ -22,7 +22,7 @@ use Rattle.survey.specs.Law.Effect.{Effect, a-species, a-factor, the-lin
 use Rattle.survey.specs.Law.Valid.{fresh-valid, after-valid}
 use Rattle.survey.specs.Law.Reach.{AllFit, reach-of-list}
 use Rattle.survey.specs.Law.Playing.{play-as-written, play-reaches}
-use Rattle.survey.specs.declared.command.Command.{Command}
+use Rattle.codec.specs.declared.command.Command.{Command}
 use Rattle.survey.specs.declared.row.Row.{Row}
 use Rattle.survey.specs.declared.survey.Survey.{Survey}
 

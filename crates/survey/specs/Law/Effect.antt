@@ -13,7 +13,7 @@ use Rattle.biomass.specs.Report.{Report, gives}
 use Rattle.biomass.specs.Limits.{mostMeasured, mostHeights, greatestArea}
 use Rattle.biomass.specs.Law.Report.{Inside, inside-true, both-true}
 use Rattle.biomass.specs.Law.Tariff.{single-tariff-range}
-use Rattle.survey.specs.Command.{Fits}
+use Rattle.codec.specs.Command.{Fits}
 use Rattle.survey.specs.Line.{lineWith, begun, withTrees, withHeight, tariffOf, factorAt}
 use Rattle.survey.specs.Survey.{mostLines, speciesAt, withState, withSpecies, withFactor, withOpened, withLine, withRow, withEnd, speciesInRange, declared, declare, giveFactor, opened, areasInRange, openLine, finish}
 use Rattle.survey.specs.Closings.{closing}
@@ -21,8 +21,8 @@ use Rattle.survey.specs.Apply.{measured, height, onLine, applyMeasured, 
 use Rattle.survey.specs.Valid.{ValidSpecies, ValidTally, ValidHeights, ValidLine, Valid}
 use Rattle.survey.specs.Law.Checks.{Gives, gives-such, when-such, unless-such, then-such, passed, species-in-range}
 use Rattle.survey.specs.Law.AsWritten.{tallied-valid, height-added}
-use Rattle.survey.specs.declared.command.Species.{Species}
-use Rattle.survey.specs.declared.command.Command.{Command}
+use Rattle.codec.specs.declared.command.Species.{Species}
+use Rattle.codec.specs.declared.command.Command.{Command}
 use Rattle.survey.specs.declared.row.Row.{Row}
 use Rattle.survey.specs.declared.line.Tally.{Tally}
 use Rattle.survey.specs.declared.line.Heights.{Heights}

@@ -12,7 +12,7 @@ use Rattle.survey.specs.Survey.{mostLines, declare, giveFactor, openLine
 use Rattle.survey.specs.Apply.{measured, height, applyMeasured, applyHeight, applyClose, apply}
 use Rattle.survey.specs.Valid.{Valid}
 use Rattle.survey.specs.Law.Named.{refusals, line-row-declines, only-named}
-use Rattle.survey.specs.declared.command.Command.{Command}
+use Rattle.codec.specs.declared.command.Command.{Command}
 use Rattle.survey.specs.declared.survey.Survey.{Survey}
 
 -- the limit that each command may meet; the others meet none

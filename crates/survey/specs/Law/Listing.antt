@@ -14,8 +14,8 @@ use Rattle.biomass.specs.Stem.{VL, VH, stemEnds, stem}
 use Rattle.biomass.specs.Crown.{crownEnds, crown}
 use Rattle.biomass.specs.Root.{rootEnds, root}
 use Rattle.biomass.specs.Tree.{tree, row}
-use Rattle.survey.specs.Reading.{speciesFrom, factorFrom, openFrom, measuredFrom, heightFrom, commandFrom, read}
-use Rattle.survey.specs.Writing.{laidAt}
+use Rattle.codec.specs.Reading.{speciesFrom, factorFrom, openFrom, measuredFrom, heightFrom, commandFrom, read}
+use Rattle.codec.specs.Bytes.{storedAt}
 use Rattle.survey.specs.Book.{encodeAll, reachUpTo, reach}
 use Rattle.survey.specs.Line.{begun, treeWith, Estimate, noTrees, emptyRow}
 use Rattle.survey.specs.Survey.{noLine, fresh, declare, giveFactor, opened, openLine, measure, giveHeight, estimate, closingRow, close, finish}
@@ -73,7 +73,7 @@ listing-totalled sheet room = total-applied listing sheet ∙ rw (le-ltb (length
 
 -- its two rows stand first in the sheet, and the rest of the sheet is as it was
 pub listing-sheet : (sheet : List ℕ) → sheetLength ≤ length sheet → sheetAfter listing sheet ≡ rowBytes row1 ++ rowBytes row2 ++ drop (2 * rowLength) sheet
-unfolding laidAt sheetBytes rowBytes listingSurvey
+unfolding storedAt sheetBytes rowBytes listingSurvey
 listing-sheet sheet room = sheet-applied listing sheet ∙ rw (le-ltb (length sheet) sheetLength room, listing-played)
 
 -- and its lines are those two

@@ -12,7 +12,7 @@ use Rattle.survey.specs.Survey.{undeclared, noLine, speciesAt, declared}
 use Rattle.survey.specs.Apply.{apply}
 use Rattle.survey.specs.Valid.{rowAt}
 use Rattle.survey.specs.Law.Effect.{Effect, a-species, a-factor, the-line, a-row, effect}
-use Rattle.survey.specs.declared.command.Command.{Command}
+use Rattle.codec.specs.declared.command.Command.{Command}
 use Rattle.survey.specs.declared.survey.Survey.{Survey}
 
 -- a closed line's row stands where it stood, and no line is reopened

@@ -13,12 +13,11 @@ use mathlib.Core.List.{List, _∷_, _++_}
 use lib.ListN.{length, length-append}
 use lib.Dec.{ltb}
 use borrow.Author.Tests.{lt-ltb, le-ltb, ltb-true, ltb-false}
-use Rattle.biomass.specs.Report.{Report, refused, gives, unless, _then_}
+use Rattle.biomass.specs.Report.{Report, refused, gives, unless, _then_, when}
 use Rattle.biomass.specs.Law.Gives.{made, figure-is, number-is}
 use Rattle.biomass.specs.Law.Declines.{Declines, gives-declines, then-declines}
-use Rattle.survey.specs.Refusal.{when}
-use Rattle.survey.specs.Command.{encode}
-use Rattle.survey.specs.Reading.{read}
+use Rattle.codec.specs.Command.{encode}
+use Rattle.codec.specs.Reading.{read}
 use Rattle.survey.specs.Book.{encodeAll, reach}
 use Rattle.survey.specs.Survey.{leaves, fresh, withLine}
 use Rattle.survey.specs.AsWritten.{asWritten, isIn}
@@ -27,15 +26,15 @@ use Rattle.survey.specs.Valid.{Valid}
 use Rattle.survey.specs.Playing.{Played, ended, stopped, takenTo, stepBy, step, met, afterEnd, playUpToBy, playUpTo, playFrom, playBy, play, playList}
 use Rattle.survey.specs.Noting.{Note, ofTheLine, notOfTheLine, notedTo, noteBy, note}
 use Rattle.survey.specs.Change.{Own, own, notOwn, ownOf}
-use Rattle.survey.specs.Law.Bytes.{Stands, stands-first, stands-second, stands-itself}
-use Rattle.survey.specs.Law.RoundTrip.{read-encoded, read-moves}
+use Rattle.codec.specs.Law.Bytes.{Stands, stands-first, stands-second, stands-itself}
+use Rattle.codec.specs.Law.RoundTrip.{read-encoded, read-moves}
 use Rattle.survey.specs.Law.Reach.{read-declines, read-at-end, reach-refused, reach-on, AllFit, none, and-next}
 use Rattle.survey.specs.Law.Checks.{then-same}
 use Rattle.survey.specs.Law.Change.{ended-refuses, own-applied}
 use Rattle.survey.specs.Law.Valid.{fresh-valid, apply-valid}
 use Rattle.survey.specs.Law.AsWritten.{as-written}
 use Rattle.survey.specs.Law.Named.{ofApplying, in-other, refusal-of-applying}
-use Rattle.survey.specs.declared.command.Command.{Command}
+use Rattle.codec.specs.declared.command.Command.{Command}
 use Rattle.survey.specs.declared.line.Line.{Line}
 use Rattle.survey.specs.declared.survey.Survey.{Survey}
 

@@ -14,16 +14,15 @@ use lib.Dec.{leb, ltb, eqb}
 use borrow.Author.Tests.{le-leb, lt-leb, le-ltb, ltb-false, ne-eqb}
 use Rattle.biomass.specs.Report.{Report, refused, gives, _then_}
 use Rattle.biomass.specs.Law.Gives.{number-is}
-use Rattle.biomass.specs.Law.Declines.{Declines, gives-declines, unless-declines}
-use Rattle.survey.specs.Bytes.{byte, AllBytes}
-use Rattle.survey.specs.Command.{encode, Fits}
-use Rattle.survey.specs.Reading.{whole, speciesFrom, factorFrom, openFrom, measuredFrom, heightFrom, commandFrom, read}
+use Rattle.biomass.specs.Law.Declines.{Declines, gives-declines, unless-declines, cond-declines}
+use Rattle.codec.specs.Bytes.{byte, AllBytes}
+use Rattle.codec.specs.Command.{encode, Fits}
+use Rattle.codec.specs.Reading.{whole, speciesFrom, factorFrom, openFrom, measuredFrom, heightFrom, commandFrom, read}
 use Rattle.survey.specs.Book.{encodeAll, readUpTo, readAll, Reach, refusedAt, inFront, byRead, reachUpTo, reach}
-use Rattle.survey.specs.Law.Bytes.{Stands, nothing, stands-at, stands-first, stands-second, stands-append, taken-stands, stands-itself}
-use Rattle.survey.specs.Law.RoundTrip.{read-encoded, read-is-encoded, read-moves}
-use Rattle.survey.specs.Law.Checks.{cond-declines}
-use Rattle.survey.specs.declared.command.Command.{Command}
-use Rattle.survey.specs.declared.command.Command.the-variants.{Close, End}
+use Rattle.codec.specs.Law.Bytes.{Stands, nothing, stands-at, stands-first, stands-second, stands-append, taken-stands, stands-itself}
+use Rattle.codec.specs.Law.RoundTrip.{read-encoded, read-is-encoded, read-moves}
+use Rattle.codec.specs.declared.command.Command.{Command}
+use Rattle.codec.specs.declared.command.Command.the-variants.{Close, End}
 
 -- ---- what reading is refused with
 

@@ -8,22 +8,22 @@ use lib.ListN.{length, getD}
 use lib.Seq.{getD-take}
 use borrow.Author.Tests.{le-ltb}
 use Rattle.biomass.specs.Report.{gives}
-use Rattle.survey.specs.Bytes.{AllBytes}
-use Rattle.survey.specs.Command.{Fits}
+use Rattle.codec.specs.Bytes.{AllBytes}
+use Rattle.codec.specs.Command.{Fits}
 use Rattle.survey.specs.Line.{emptyRow}
 use Rattle.survey.specs.Survey.{mostLines, noLine, fresh, closingRow}
 use Rattle.survey.specs.Valid.{rowAt, Valid}
 use Rattle.survey.specs.Playing.{ended, play}
 use Rattle.survey.specs.Sheet.{sheetLength, rowsOf, findRow}
 use Rattle.survey.specs.Total.{sheetAfter}
-use Rattle.survey.specs.Law.RoundTrip.{read-is-encoded}
+use Rattle.codec.specs.Law.RoundTrip.{read-is-encoded}
 use Rattle.survey.specs.Law.Sheet.{RowFits, row-reads-back, rows-number, rows-at-most}
 use Rattle.survey.specs.Law.Closing.{closes-to}
 use Rattle.survey.specs.Law.Effect.{Effect, a-species, a-factor, the-line, a-row, effect}
 use Rattle.survey.specs.Law.Valid.{always, fresh-valid, set-cases}
 use Rattle.survey.specs.Law.Playing.{taken, step-valid, kept-to-the-end, play-valid}
 use Rattle.survey.specs.Law.Total.{sheet-applied}
-use Rattle.survey.specs.declared.command.Command.{Command}
+use Rattle.codec.specs.declared.command.Command.{Command}
 use Rattle.survey.specs.declared.row.Row.{Row}
 use Rattle.survey.specs.declared.survey.Survey.{Survey}
 

@@ -11,13 +11,12 @@ use lib.ListN.{length, take, drop, getD, length-append}
 use lib.Seq.{length-take-le, take-suc}
 use borrow.Author.Tests.{le-leb}
 use Rattle.biomass.specs.Report.{gives}
-use Rattle.survey.specs.Bytes.{byte, numberAt, bytes}
-use Rattle.survey.specs.Writing.{laidAt}
+use Rattle.codec.specs.Bytes.{byte, numberAt, bytes, storedAt}
 use Rattle.survey.specs.Survey.{mostLines}
 use Rattle.survey.specs.Valid.{Valid}
 use Rattle.survey.specs.Sheet.{rowLength, sheetLength, rowBytes, sheetBytes, rowsOf, rowFrom, findRow}
-use Rattle.survey.specs.Law.Bytes.{Stands, before, stands-at, stands-first, stands-second, stands-taken, byte-alone, number-of-bytes}
-use Rattle.survey.specs.Law.RoundTrip.{length-laid, stands-laid, laid-keeps, laid-then}
+use Rattle.codec.specs.Law.Bytes.{Stands, before, stands-at, stands-first, stands-second, stands-taken, byte-alone, number-of-bytes}
+use Rattle.codec.specs.Law.Storing.{length-stored, stands-stored, stored-keeps, stored-then}
 use Rattle.survey.specs.declared.row.Row.{Row}
 use Rattle.survey.specs.declared.survey.Survey.{Survey}
 
@@ -90,41 +89,41 @@ row-of-bytes r s at f (before e₁ (before e₂ (before e₃ h))) =
 module _ (sheet : List ℕ) (rows : List Row) where
   -- the rows before the i-th, and then the i-th after them
   pub laid-one-more : (i : ℕ) (z : Row) → i < length rows
-      → laidAt (laidAt sheet 0 (sheetBytes (take i rows))) (rowLength * i) (rowBytes (getD rows i z)) ≡ laidAt sheet 0 (sheetBytes (take (i + 1) rows))
+      → storedAt (storedAt sheet 0 (sheetBytes (take i rows))) (rowLength * i) (rowBytes (getD rows i z)) ≡ storedAt sheet 0 (sheetBytes (take (i + 1) rows))
   laid-one-more i z inside =
       let b = sheetBytes (take i rows) in
       let place : rowLength * i ≡ 0 + length b = omega (arith, length-sheet (take i rows), length-take-le i rows (omega arith)) in
       let next : sheetBytes (take (i + 1) rows) ≡ b ++ rowBytes (getD rows i z) =
       rw (add-one, take-suc rows i z inside) (sheet-snoc (take i rows) (getD rows i z)) in
-      rw (place, next) (laid-then sheet 0 b zero-le (rowBytes (getD rows i z)))
+      rw (place, next) (stored-then sheet 0 b zero-le (rowBytes (getD rows i z)))
 
   -- nothing past the rows changes
-  pub rest-stays : (j : ℕ) → rowLength * length rows ≤ j → byte (laidAt sheet 0 (sheetBytes rows)) j ≡ byte sheet j
-  rest-stays j past = laid-keeps sheet 0 (sheetBytes rows) zero-le j (inr (omega (arith, length-sheet rows)))
+  pub rest-stays : (j : ℕ) → rowLength * length rows ≤ j → byte (storedAt sheet 0 (sheetBytes rows)) j ≡ byte sheet j
+  rest-stays j past = stored-keeps sheet 0 (sheetBytes rows) zero-le j (inr (omega (arith, length-sheet rows)))
 
   module _ (room : rowLength * length rows ≤ length sheet) where
     -- a sheet that the rows fit is as long as it was
-    pub laid-length : length (laidAt sheet 0 (sheetBytes rows)) ≡ length sheet
-    laid-length = length-laid sheet 0 (sheetBytes rows) (omega (arith, length-sheet rows))
+    pub laid-length : length (storedAt sheet 0 (sheetBytes rows)) ≡ length sheet
+    laid-length = length-stored sheet 0 (sheetBytes rows) (omega (arith, length-sheet rows))
 
     module _ (i : ℕ) (z : Row) (inside : i < length rows) where
-      fits : rowLength * i + rowLength ≤ length (laidAt sheet 0 (sheetBytes rows))
+      fits : rowLength * i + rowLength ≤ length (storedAt sheet 0 (sheetBytes rows))
       fits = omega (arith, laid-length)
 
-      stands : Stands (rowBytes (getD rows i z)) (laidAt sheet 0 (sheetBytes rows)) (rowLength * i)
-      stands = stands-at (row-apart rows i z inside (stands-laid sheet 0 (sheetBytes rows) zero-le)) (omega arith)
+      stands : Stands (rowBytes (getD rows i z)) (storedAt sheet 0 (sheetBytes rows)) (rowLength * i)
+      stands = stands-at (row-apart rows i z inside (stands-stored sheet 0 (sheetBytes rows) zero-le)) (omega arith)
 
       -- "A row is 25 bytes ... in closing order": the i-th stands from byte 25·i on
-      pub row-stands : take rowLength (drop (rowLength * i) (laidAt sheet 0 (sheetBytes rows))) ≡ rowBytes (getD rows i z)
+      pub row-stands : take rowLength (drop (rowLength * i) (storedAt sheet 0 (sheetBytes rows))) ≡ rowBytes (getD rows i z)
       row-stands =
           let r = getD rows i z in
-          rw (length-row r) at (stands-taken (rowBytes r) (laidAt sheet 0 (sheetBytes rows)) (rowLength * i) stands (omega (arith, fits, length-row r)))
+          rw (length-row r) at (stands-taken (rowBytes r) (storedAt sheet 0 (sheetBytes rows)) (rowLength * i) stands (omega (arith, fits, length-row r)))
 
       -- a row that is laid and read is the same row
-      pub row-reads-back : RowFits (getD rows i z) → findRow (laidAt sheet 0 (sheetBytes rows)) i ≡ gives (getD rows i z)
+      pub row-reads-back : RowFits (getD rows i z) → findRow (storedAt sheet 0 (sheetBytes rows)) i ≡ gives (getD rows i z)
       unfolding findRow
       row-reads-back f =
-          let laid = laidAt sheet 0 (sheetBytes rows) in
+          let laid = storedAt sheet 0 (sheetBytes rows) in
           rw (le-leb (rowLength * i + rowLength) (length laid) fits) (ap gives (row-of-bytes (getD rows i z) laid (rowLength * i) f stands))
 
 -- ---- the rows of a valid survey
@@ -138,5 +137,5 @@ module _ (s : Survey) (v : Valid s) where
   rows-at-most = omega (arith, rows-number, v .lines)
 
   -- so that a sheet which is not too short keeps its length
-  pub sheet-as-long : (sheet : List ℕ) → sheetLength ≤ length sheet → length (laidAt sheet 0 (sheetBytes (rowsOf s))) ≡ length sheet
+  pub sheet-as-long : (sheet : List ℕ) → sheetLength ≤ length sheet → length (storedAt sheet 0 (sheetBytes (rowsOf s))) ≡ length sheet
   sheet-as-long sheet room = laid-length sheet (rowsOf s) (omega (arith, rows-at-most))

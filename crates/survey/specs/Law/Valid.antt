@@ -22,8 +22,8 @@ use Rattle.survey.specs.Law.Checks.{declared-true, declared-as, is-line-
 use Rattle.survey.specs.Law.Closing.{closes-to}
 use Rattle.survey.specs.Law.Effect.{Follows, Effect, a-species, a-factor, the-line, a-row, effect}
 use Rattle.survey.specs.Law.Once.{species-stay}
-use Rattle.survey.specs.declared.command.Species.{Species}
-use Rattle.survey.specs.declared.command.Command.{Command}
+use Rattle.codec.specs.declared.command.Species.{Species}
+use Rattle.codec.specs.declared.command.Command.{Command}
 use Rattle.survey.specs.declared.row.Row.{Row}
 use Rattle.survey.specs.declared.line.Line.{Line}
 use Rattle.survey.specs.declared.survey.Survey.{Survey}

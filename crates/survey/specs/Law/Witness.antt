@@ -17,7 +17,7 @@ use Rattle.survey.specs.Listing.{listed, species3, line1, fourTrees}
 use Rattle.survey.specs.Law.Checks.{true-declared}
 use Rattle.survey.specs.Law.Effect.{Effect, a-species, a-factor, the-line, a-row, effect}
 use Rattle.survey.specs.Law.Limit.{AtLimit, limit-told}
-use Rattle.survey.specs.declared.command.Command.{Command}
+use Rattle.codec.specs.declared.command.Command.{Command}
 use Rattle.survey.specs.declared.survey.Survey.{Survey}
 
 -- ---- in general

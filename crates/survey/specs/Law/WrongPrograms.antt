@@ -15,9 +15,8 @@ use Rattle.biomass.specs.Fraction.{whole}
 use Rattle.biomass.specs.Exact.{Given, exactStem, exactCrown, exactRoot}
 use Rattle.biomass.specs.Law.Fraction.{≼-trans}
 use Rattle.biomass.specs.Law.Signed.{pos-le}
-use Rattle.survey.specs.Bytes.{byte, numberAt}
-use Rattle.survey.specs.Reading.{speciesFrom, openFrom, commandFrom, read}
-use Rattle.survey.specs.Writing.{laidAt}
+use Rattle.codec.specs.Bytes.{byte, numberAt, storedAt}
+use Rattle.codec.specs.Reading.{speciesFrom, openFrom, commandFrom, read}
 use Rattle.survey.specs.Book.{encodeAll}
 use Rattle.survey.specs.Survey.{fresh, declare, opened, openLine, finish}
 use Rattle.survey.specs.Apply.{lineRow, applyClose}
@@ -28,7 +27,7 @@ use Rattle.survey.specs.Demand3.{Fractions, NoneAbove, more, none, added
 use Rattle.survey.specs.Listing.{species3, line2, listing, listingTotals, row1, row2}
 use Rattle.survey.specs.Law.Listing.{listingLines, listing-totalled, listing-sheet, listing-lines}
 use Rattle.survey.specs.Law.Total.{sheet-applied}
-use Rattle.survey.specs.declared.command.Command.{Command}
+use Rattle.codec.specs.declared.command.Command.{Command}
 use Rattle.survey.specs.declared.total.Totals.{Totals}
 
 -- What totalling promises of the answer r and of the sheet afterwards: the three promises of `total` in src/total.rt
@@ -45,7 +44,7 @@ secondLine = encodeAll (species3 ∷ line2 ∷ Command.Close ∷ Command.End ∷
 second-sheet : (sheet : List ℕ) → sheetLength ≤ length sheet → sheetAfter secondLine sheet ≡ rowBytes row2 ++ drop rowLength sheet
 unfolding
     secondLine encodeAll speciesFrom openFrom commandFrom read fresh declare opened openLine lineRow applyClose finish stepBy playUpToBy play
-    laidAt sheetBytes rowBytes
+    storedAt sheetBytes rowBytes
 second-sheet sheet room = sheet-applied secondLine sheet ∙ rw (le-ltb (length sheet) sheetLength room)
 
 -- ---- "Demand 2 shuts out all six."

@@ -6,9 +6,9 @@ use Prim.Native.Nat.{ℕ}
 use borrow.Author.Needs.{needs}
 use Rattle.biomass.specs.Report.{Report, refused, _then_}
 use Rattle.biomass.specs.Law.Report.{stops, follows, stop-unless, past-unless}
-use Rattle.survey.specs.Refusal.{number}
-use Rattle.survey.specs.declared.command.Command.{Command}
-use Rattle.survey.specs.declared.refusal.Refusal.{Refusal}
+use Rattle.codec.specs.Refusal.{number}
+use Rattle.codec.specs.declared.command.Command.{Command}
+use Rattle.codec.specs.declared.refusal.Refusal.{Refusal}
 use Rattle.fieldbook.specs.Numbers.{made, commandOf}
 use Rattle.fieldbook.specs.Numbers as Numbers
 use Rattle.fieldbook.specs.declared.commands.Made.{Made}

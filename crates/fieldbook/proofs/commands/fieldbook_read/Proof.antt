@@ -4,8 +4,8 @@ use Prim.Native.Nat.{ℕ}
 use mathlib.Core.Path.{_≡_, _∙_, ap}
 use borrow.Author.Needs.{needs}
 use Rattle.biomass.specs.Report.{Report}
-use Rattle.survey.specs.Reading.{reading, placeAfter}
-use Rattle.survey.specs.declared.command.Command.{Command}
+use Rattle.codec.specs.Reading.{reading, placeAfter}
+use Rattle.codec.specs.declared.command.Command.{Command}
 use Rattle.fieldbook.specs.Layout.{refusal, command}
 use Rattle.fieldbook.proofs.Handed.{by-case}
 use Rattle.fieldbook.proofs.commands.fieldbook_read.Statement.{statement}

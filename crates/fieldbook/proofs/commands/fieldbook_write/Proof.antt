@@ -6,12 +6,12 @@ use mathlib.Core.List.{List}
 use borrow.Author.Needs.{needs}
 use Rattle.biomass.specs.Report.{refused, gives}
 use Rattle.biomass.specs.Law.Report.{stops, follows}
-use Rattle.survey.specs.Refusal.{number}
-use Rattle.survey.specs.Writing.{writing, write}
-use Rattle.survey.specs.Writing as Writing
-use Rattle.survey.specs.declared.refusal.Refusal.{Refusal}
-use Rattle.survey.specs.declared.command.Command.{Command}
-use Rattle.survey.specs.declared.writing.Written.{Written}
+use Rattle.codec.specs.Refusal.{number}
+use Rattle.codec.specs.Writing.{writing, write}
+use Rattle.codec.specs.Writing as Writing
+use Rattle.codec.specs.declared.refusal.Refusal.{Refusal}
+use Rattle.codec.specs.declared.command.Command.{Command}
+use Rattle.codec.specs.declared.writing.Written.{Written}
 use Rattle.fieldbook.specs.Numbers.{commandOf}
 use Rattle.fieldbook.specs.Numbers as Numbers
 use Rattle.fieldbook.specs.Layout.{refusal, writeNumbers, nextPlace}

@@ -4,7 +4,7 @@ use native.Mathlib.Omega.{arith}
 use mathlib.Core.Path.{_≡_, _∙_, sym, ap}
 use mathlib.Core.List.{List}
 use borrow.Author.Needs.{needs}
-use Rattle.survey.specs.declared.command.Command.{Command}
+use Rattle.codec.specs.declared.command.Command.{Command}
 use Rattle.fieldbook.specs.Numbers.{numbers}
 use Rattle.fieldbook.proofs.commands.numbers_of.Statement.{statement}
 use Rattle.fieldbook.proofs.commands.numbers_of.Tie as tie

@@ -5,10 +5,10 @@ use mathlib.Core.Path.{_≡_, _∙_, ap}
 use mathlib.Core.List.{[], _∷_}
 use lib.IntN.{ℤ}
 use lib.Signed.{mag}
-use Rattle.survey.specs.Bytes.{unsigned}
-use Rattle.survey.specs.declared.command.Species.{Species}
-use Rattle.survey.specs.declared.command.Command.{Command}
-use Rattle.survey.proofs.Complement.{word, read-back}
+use Rattle.codec.specs.Bytes.{unsigned}
+use Rattle.codec.specs.declared.command.Species.{Species}
+use Rattle.codec.specs.declared.command.Command.{Command}
+use Rattle.codec.proofs.Complement.{word, read-back}
 use Rattle.fieldbook.specs.Numbers.{extended, numbers}
 use Rattle.fieldbook.proofs.commands.species_numbers.Statement.{statement}
 use Rattle.fieldbook.proofs.commands.species_numbers.Tie as tie

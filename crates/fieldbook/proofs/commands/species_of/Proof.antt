@@ -1,6 +1,6 @@
 -- `fieldbook::commands::species_of` meets its contract: each constant is read back from its field as the call gave it.
 use native.Mathlib.Omega.{arith}
-use Rattle.survey.proofs.Complement.{given-back, same-species}
+use Rattle.codec.proofs.Complement.{given-back, same-species}
 use Rattle.fieldbook.proofs.commands.species_of.Statement.{statement}
 use Rattle.fieldbook.proofs.commands.species_of.Tie as tie
 

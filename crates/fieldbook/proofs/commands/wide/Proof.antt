@@ -4,7 +4,7 @@ use native.Mathlib.Omega.{arith}
 use mathlib.Core.Path.{_≡_, _∙_, ap}
 use borrow.Author.Tests.{lt-ltb, le-ltb}
 use mir.Facts.{toZ-ofZ}
-use Rattle.survey.specs.Bytes.{unsigned}
+use Rattle.codec.specs.Bytes.{unsigned}
 use Rattle.fieldbook.specs.Numbers.{extended}
 use Rattle.fieldbook.proofs.commands.wide.Statement.{statement}
 use Rattle.fieldbook.proofs.commands.wide.Tie as tie

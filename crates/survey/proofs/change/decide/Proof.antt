@@ -5,7 +5,7 @@ use mathlib.Core.Bool.{Bool}
 use mathlib.Core.List.{List}
 use Rattle.biomass.specs.Report.{Report}
 use Rattle.survey.specs.Change.{notes, changeOf}
-use Rattle.survey.specs.declared.command.Command.{Command}
+use Rattle.codec.specs.declared.command.Command.{Command}
 use Rattle.survey.specs.declared.line.Line.{Line}
 use Rattle.survey.specs.declared.change.Change.{Change}
 use Rattle.survey.specs.declared.change.Seen.{Seen}

@@ -5,8 +5,8 @@ use mathlib.Core.List.{[], _∷_}
 use types.Run.{OneOf, miss}
 use denote.Enum.Declared.{tagOf}
 use Rattle.survey.specs.Change.{named}
-use Rattle.survey.specs.declared.command.Command.{Command}
-use Rattle.survey.proofs.command.Command.{the-type}
+use Rattle.codec.specs.declared.command.Command.{Command}
+use Rattle.codec.proofs.command.Command.{the-type}
 use borrow.Author.Needs.{needs}
 use Rattle.survey.proofs.change.names.Statement.{statement}
 use Rattle.survey.proofs.change.names.Tie as tie

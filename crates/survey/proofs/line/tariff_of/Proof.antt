@@ -5,8 +5,8 @@ use lib.Signed.{mag}
 use Rattle.biomass.specs.Report.{Report}
 use Rattle.biomass.specs.Tariff.{singleTariff}
 use Rattle.survey.specs.Line.{tariffOf}
-use Rattle.survey.specs.declared.command.Species.{Species}
-use Rattle.survey.proofs.Complement.{word, read-back}
+use Rattle.codec.specs.declared.command.Species.{Species}
+use Rattle.codec.proofs.Complement.{word, read-back}
 use Rattle.survey.proofs.line.tariff_of.Statement.{statement}
 use Rattle.survey.proofs.line.tariff_of.Tie as tie
 

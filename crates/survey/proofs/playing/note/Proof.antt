@@ -7,15 +7,15 @@ use borrow.Author.Needs.{needs}
 use denote.Enum.Declared.{tagOf}
 use Rattle.biomass.specs.Report.{Report, refused, gives, _then_}
 use Rattle.biomass.specs.Law.Report.{stops, follows}
-use Rattle.survey.specs.Refusal.{number}
-use Rattle.survey.specs.Reading.{reading}
+use Rattle.codec.specs.Refusal.{number}
+use Rattle.codec.specs.Reading.{reading}
 use Rattle.survey.specs.Change.{ownOf}
 use Rattle.survey.specs.Noting.{Note, notOfTheLine, notedTo, noteBy, note}
-use Rattle.survey.specs.declared.refusal.Refusal.{Refusal}
-use Rattle.survey.specs.declared.command.Command.{Command}
-use Rattle.survey.specs.declared.reading.Reading.{Reading}
+use Rattle.codec.specs.declared.refusal.Refusal.{Refusal}
+use Rattle.codec.specs.declared.command.Command.{Command}
+use Rattle.codec.specs.declared.reading.Reading.{Reading}
 use Rattle.survey.specs.declared.line.Line.{Line}
-use Rattle.survey.proofs.command.Command.{the-type}
+use Rattle.codec.proofs.command.Command.{the-type}
 use Rattle.survey.proofs.playing.note.Statement.{statement}
 use Rattle.survey.proofs.playing.note.Tie as tie
 

@@ -10,14 +10,14 @@ use mathlib.Core.List.{List}
 use lib.ListN.{length}
 use borrow.Author.Needs.{needs}
 use Rattle.biomass.specs.Report.{gives}
-use Rattle.survey.specs.Reading.{read, reading}
+use Rattle.codec.specs.Reading.{read, reading}
 use Rattle.survey.specs.Survey.{fresh, withLine, withEnd, opened}
 use Rattle.survey.specs.Change.{changed}
 use Rattle.survey.specs.Playing.{Played, playFrom, play}
 use Rattle.survey.specs.Noting.{noting}
 use Rattle.survey.specs.Law.Change.{Made, decides, not-ended-seen}
 use Rattle.survey.specs.Law.Playing.{plays-refused, plays-after-end, On, plays-taken, plays-declined, plays-unread, note-refused, plays-noted}
-use Rattle.survey.specs.declared.command.Command.{Command}
+use Rattle.codec.specs.declared.command.Command.{Command}
 use Rattle.survey.specs.declared.survey.Survey.{Survey}
 use Rattle.survey.specs.declared.change.Change.{Change}
 use Rattle.survey.proofs.Check.{species-place, factor-place, row-place}

@@ -50,16 +50,16 @@ use denote.Triple.Spec.{Meets, tripleOf}
 use denote.Triple.Table.{entered, cited}
 use denote.Triple.Walked.{Stays, stay-none, stay-none-slice, walkOf, goes-none, goes-none-slice, Walks, ends-at, walked, walk-meets}
 use denote.Exit.{yes}
-use Rattle.survey.specs.Reading.{reading, read, placeAfter}
+use Rattle.codec.specs.Reading.{reading, read, placeAfter}
 use Rattle.survey.specs.declared.reader.BookReader.{BookReader}
 use Rattle.survey.specs.declared.reader.Onward.{Onward}
-use Rattle.survey.specs.declared.reading.Reading.{Reading}
+use Rattle.codec.specs.declared.reading.Reading.{Reading}
 use Rattle.survey.proofs.Held.{moved, Answered, Reader, declared, laws, Own, InLocal, at-fits, own-moved, lies-in, lies-out, gave, says-both}
 use Rattle.survey.proofs.reader.BookReader.Laws as T′
 use Rattle.survey.proofs.reader.Onward as O
 use Rattle.survey.proofs.reader.Onward.Laws as O′
-use Rattle.survey.proofs.reading.Reading as S
-use Rattle.survey.proofs.reading.Reading.Laws as S′
+use Rattle.codec.proofs.reading.Reading as S
+use Rattle.codec.proofs.reading.Reading.Laws as S′
 use Rattle.survey.proofs.reader.BookReader.new as new
 use Rattle.survey.proofs.reader.BookReader.new.Symbol as new-def
 use Rattle.survey.proofs.reader.BookReader.new.Symbol.{name as #new}

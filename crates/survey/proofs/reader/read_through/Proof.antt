@@ -7,12 +7,12 @@ use mathlib.Core.Path.{_≡_, _∙_, sym, ap}
 use mathlib.Core.List.{List, _∷_}
 use lib.ListN.{length}
 use Rattle.biomass.specs.Report.{gives}
-use Rattle.survey.specs.Reading.{reading, read, placeAfter}
+use Rattle.codec.specs.Reading.{reading, read, placeAfter}
 use Rattle.survey.specs.Book.{Reach, reach, counted}
-use Rattle.survey.specs.Law.RoundTrip.{read-moves}
+use Rattle.codec.specs.Law.RoundTrip.{read-moves}
 use Rattle.survey.specs.Law.Reach.{reach-refused, reach-on}
-use Rattle.survey.specs.declared.command.Command.{Command}
-use Rattle.survey.specs.declared.reading.Reading.{Reading}
+use Rattle.codec.specs.declared.command.Command.{Command}
+use Rattle.codec.specs.declared.reading.Reading.{Reading}
 use Rattle.survey.proofs.reader.read_through.Statement.{statement}
 use Rattle.survey.proofs.reader.read_through.Tie as tie
 

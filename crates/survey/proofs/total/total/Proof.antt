@@ -6,10 +6,10 @@ use mathlib.Core.List.{List}
 use lib.ListN.{length}
 use borrow.Author.Needs.{needs}
 use borrow.Author.Tests.{lt-ltb, le-ltb}
-use Rattle.survey.specs.Refusal.{number}
+use Rattle.codec.specs.Refusal.{number}
 use Rattle.survey.specs.Playing.{Played, ended, stopped, played, play}
 use Rattle.survey.specs.Survey.{mostLines}
-use Rattle.survey.specs.Writing.{laidAt}
+use Rattle.codec.specs.Bytes.{storedAt}
 use Rattle.survey.specs.Sheet.{sheetLength, sheetBytes, rowsOf}
 use Rattle.survey.specs.Total.{Answer, refusedAt, totalled, totalOf, answerOf, total, laidBy, sheetAfter}
 use Rattle.survey.specs.Law.Playing.{play-valid}
@@ -18,7 +18,7 @@ use Rattle.survey.specs.Law.Sheet.{sheet-as-long}
 use Rattle.survey.specs.Law.Total.{total-applied, sheet-applied}
 use Rattle.survey.specs.Law.Demand3.{rows-small, demanded}
 use Rattle.survey.specs.Demand3.{Demanded}
-use Rattle.survey.specs.declared.refusal.Refusal.{Refusal}
+use Rattle.codec.specs.declared.refusal.Refusal.{Refusal}
 use Rattle.survey.specs.declared.survey.Outcome.{Outcome}
 use Rattle.survey.specs.declared.playing.Played as Code
 use Rattle.survey.proofs.total.total.Statement.{statement}
@@ -71,17 +71,17 @@ module _ (book : List ℕ) (p : Code.Played) (promise : played p ≡ play book) 
     end-answer : {r : Answer} → p .outcome ≡ Outcome.Done → r ≡ totalled (totalOf (rowsOf (p .survey))) → r ≡ total book sheet
     end-answer e = answers (to-end e)
 
-    end-lays : {x : List ℕ} → p .outcome ≡ Outcome.Done → x ≡ laidAt sheet 0 (sheetBytes (rowsOf (p .survey))) → x ≡ sheetAfter book sheet
+    end-lays : {x : List ℕ} → p .outcome ≡ Outcome.Done → x ≡ storedAt sheet 0 (sheetBytes (rowsOf (p .survey))) → x ≡ sheetAfter book sheet
     end-lays e = lays (to-end e)
 
-    end-as-long : {x : List ℕ} → p .outcome ≡ Outcome.Done → x ≡ laidAt sheet 0 (sheetBytes (rowsOf (p .survey))) → length x ≡ length sheet
+    end-as-long : {x : List ℕ} → p .outcome ≡ Outcome.Done → x ≡ storedAt sheet 0 (sheetBytes (rowsOf (p .survey))) → length x ≡ length sheet
     end-as-long e is = ap length is ∙ sheet-as-long (p .survey) (play-valid book (p .survey) (to-end e)) sheet enough
 
 returns : tie.Need-returns
 returns c = no-room _ _ (search)
 
-lay-total-requires : tie.Need-lay-total-requires
-lay-total-requires c κs = (search at-end-few, search at-end-small, search)
+total-rows-requires : tie.Need-total-rows-requires
+total-rows-requires c κs = (search at-end-few, search at-end-small, search)
 
 returns-2 : tie.Need-returns-2
 returns-2 c = promised _ _ (search refusal-answer) (search refusal-keeps)
@@ -97,7 +97,7 @@ total-spec =
     (λ c κs. tt)
     (λ c. search needs)
     (λ c. search needs)
-    lay-total-requires
+    total-rows-requires
     returns-2
     (λ c. search end-as-long)
     returns-3)

@@ -11,7 +11,7 @@ use Rattle.biomass.specs.Law.Tariff.{single-tariff-range}
 use Rattle.biomass.specs.declared.answer.Count.{Count}
 use Rattle.survey.specs.Line.{tariffOf}
 use Rattle.survey.specs.Apply.{mostTariffs, height}
-use Rattle.survey.specs.declared.command.Species.{Species}
+use Rattle.codec.specs.declared.command.Species.{Species}
 use Rattle.survey.proofs.Check.{stop-when, past-when, over, not-over}
 use Rattle.survey.proofs.line.Line.height.Statement.{statement}
 use Rattle.survey.proofs.line.Line.height.Tie as tie

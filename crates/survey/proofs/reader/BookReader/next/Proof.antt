@@ -48,22 +48,22 @@ use denote.Triple.Entry.{Vals, onEntry}
 use denote.Triple.Spec.{Meets, tripleOf}
 use denote.Triple.Table.{entered, cited}
 use denote.Triple.Walked.{Stays, stay-ref, walkOf, goes-ref, Walks, ends-at, walked, walk-meets}
-use Rattle.survey.specs.RoundTrip.{WritesBack}
-use Rattle.survey.specs.Reading.{reading, placeAfter}
+use Rattle.codec.specs.RoundTrip.{WritesBack}
+use Rattle.codec.specs.Reading.{reading, placeAfter}
 use Rattle.survey.specs.declared.reader.BookReader.{BookReader}
-use Rattle.survey.specs.declared.reading.Reading.{Reading}
+use Rattle.codec.specs.declared.reading.Reading.{Reading}
 use Rattle.survey.proofs.Held.{moved, Answered, Reader, declared, laws, Own, Lying, Cell, at-fits, book-room, own-moved, cell-in, cell-out, gave, says-both}
 use Rattle.survey.proofs.reader.BookReader.Laws as T′
-use Rattle.survey.proofs.reading.Reading as S
-use Rattle.survey.proofs.reading.Reading.Laws as S′
-use Rattle.survey.proofs.reading.read as read
-use Rattle.survey.proofs.reading.read.Symbol as read-def
-use Rattle.survey.proofs.reading.read.Symbol.{name as #read}
-use Rattle.survey.proofs.reading.read.Met as read-thm
-use Rattle.survey.proofs.reading.place_after as after
-use Rattle.survey.proofs.reading.place_after.Symbol as after-def
-use Rattle.survey.proofs.reading.place_after.Symbol.{name as #place-after}
-use Rattle.survey.proofs.reading.place_after.Met as after-thm
+use Rattle.codec.proofs.reading.Reading as S
+use Rattle.codec.proofs.reading.Reading.Laws as S′
+use Rattle.codec.proofs.reading.read as read
+use Rattle.codec.proofs.reading.read.Symbol as read-def
+use Rattle.codec.proofs.reading.read.Symbol.{name as #read}
+use Rattle.codec.proofs.reading.read.Met as read-thm
+use Rattle.codec.proofs.reading.place_after as after
+use Rattle.codec.proofs.reading.place_after.Symbol as after-def
+use Rattle.codec.proofs.reading.place_after.Symbol.{name as #place-after}
+use Rattle.codec.proofs.reading.place_after.Met as after-thm
 use Rattle.survey.proofs.reader.BookReader.next.Key.{name as #next}
 use Rattle.survey.proofs.reader.BookReader.next as next
 use Rattle.survey.proofs.reader.BookReader.next.Statement as stated
@@ -243,6 +243,6 @@ next-spec 𝓤 H 𝓜 𝓖 𝓡 =
     entered 𝓤 H (tripleOf 𝓤 H (𝓖 .A) next.signature (next.spec 𝓤 H (𝓖 .A) (𝓜 .mem) (𝓡 .run)))
     (tables 𝓤 H 𝓜 𝓡 code.env .C) (tables 𝓤 H 𝓜 𝓡 code.env .Λ) #next code.function (code.unfolded 𝓤 H 𝓜 𝓡)
     (next-meets 𝓤 H (𝓖 .A) (givenOf 𝓤 H 𝓜 𝓖) (𝓜 .mem) (𝓡 .run) (tablesOf 𝓤 H 𝓜 (tables 𝓤 H 𝓜 𝓡 code.env))
-    (cited 𝓤 H (Read 𝓤 H (𝓖 .A) (𝓜 .mem) (𝓡 .run)) 𝓜 𝓡 code.env #read read-def.routine code.calls-survey·reading·read (read-thm.met 𝓤 H 𝓜 𝓖 𝓡))
-    (cited 𝓤 H (After 𝓤 H (𝓖 .A) (𝓜 .mem) (𝓡 .run)) 𝓜 𝓡 code.env #place-after after-def.routine code.calls-survey·reading·place-after
+    (cited 𝓤 H (Read 𝓤 H (𝓖 .A) (𝓜 .mem) (𝓡 .run)) 𝓜 𝓡 code.env #read read-def.routine code.calls-codec·reading·read (read-thm.met 𝓤 H 𝓜 𝓖 𝓡))
+    (cited 𝓤 H (After 𝓤 H (𝓖 .A) (𝓜 .mem) (𝓡 .run)) 𝓜 𝓡 code.env #place-after after-def.routine code.calls-codec·reading·place-after
     (after-thm.met 𝓤 H 𝓜 𝓖 𝓡)))

@@ -1,0 +1,4 @@
+-- Laws that the proofs of several routines share.
+pub mod Complement
+pub mod Operands
+pub mod Digits
