@@ -10,7 +10,7 @@ use Rattle.codec.specs.Writing.{write}
 use Rattle.codec.specs.Writing as Writing
 use Rattle.survey.specs.Total.{Answer, refusedAt, totalled}
 use Rattle.codec.specs.declared.command.Command.{Command}
-use Rattle.survey.specs.declared.row.Row.{Row}
+use Rattle.line.specs.declared.row.Row.{Row}
 use Rattle.fieldbook.specs.Numbers.{numbers, commandOf}
 
 -- 0, or the number of the refusal

@@ -1,5 +1,5 @@
 // Totalling a book into a sheet, and reading a row of the sheet back.
-use survey::row::Row;
+use line::row::Row;
 use survey::sheet::Found;
 use survey::sheet::find_row;
 use survey::total::Totalled;

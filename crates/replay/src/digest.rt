@@ -2,8 +2,8 @@
 use codec::command::Command;
 use codec::command::Species;
 use codec::writing::write;
-use survey::line::Line;
-use survey::row::Row;
+use line::line::Line;
+use line::row::Row;
 use survey::survey::Survey;
 
 pub struct Digest(pub u64);

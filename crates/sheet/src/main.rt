@@ -4,7 +4,7 @@
 use codec::refusal::Refusal;
 use libc::STDIN_FILENO;
 use libc::STDOUT_FILENO;
-use survey::row::Row;
+use line::row::Row;
 use survey::sheet::Found;
 use survey::sheet::SHEET_LENGTH;
 use survey::sheet::find_row;

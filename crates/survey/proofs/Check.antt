@@ -1,32 +1,25 @@
 -- From a test of the code to a check of the definition: where the check fails, the report is its refusal, and where it is passed, what follows it. (Law.Report
--- of `biomass` has these for `unless`, and for what a figure answers.)
-use Prim.Native.Nat.{ℕ, _+_, _-_, _≤_, _<_, zero-le}
-use lib.Dec.{leb}
+-- of `biomass` has these for a test, and for what a figure answers.)
+use Prim.Native.Nat.{ℕ, _-_, _≤_, _<_, zero-le}
 use mathlib.Core.Path.{_≡_, _∙_, sym, ap, subst}
 use mathlib.Core.Bool.{Bool, true, false, not, cond}
 use native.Mathlib.Omega.{arith}
 use borrow.Author.Tests.{eq-eqb, ne-eqb, le-leb, lt-leb, lt-ltb, le-ltb, not-true}
 use Rattle.biomass.specs.Whole.{inside}
-use Rattle.biomass.specs.Law.Report.{refuses, goes-on, held, stops, follows, true-inside}
+use Rattle.biomass.specs.Law.Report.{stop-when, past-when, refuses, goes-on, held, stops, follows, true-inside}
 use Rattle.biomass.specs.Report.{Report, refused, _then_, when}
 use Rattle.codec.specs.Refusal.{number}
 use Rattle.survey.specs.Survey.{mostLines}
-use Rattle.survey.specs.Apply.{noted, rowed}
+use Rattle.line.specs.AnyLine.{noted, rowed}
 use Rattle.survey.specs.Change.{HasPlace}
 use Rattle.codec.specs.declared.command.Species.{Species}
 use Rattle.codec.specs.declared.refusal.Refusal.{Refusal}
-use Rattle.survey.specs.declared.row.Row.{Row}
-use Rattle.survey.specs.declared.line.Line.{Line}
-use Rattle.survey.specs.declared.line.Noted.{Noted}
-use Rattle.survey.specs.declared.line.Closed.{Closed}
+use Rattle.line.specs.declared.row.Row.{Row}
+use Rattle.line.specs.declared.line.Line.{Line}
+use Rattle.line.specs.declared.line.Noted.{Noted}
+use Rattle.line.specs.declared.line.Closed.{Closed}
 use Rattle.survey.specs.declared.survey.Survey.{Survey}
 use Rattle.survey.specs.declared.change.Change.{Change}
-
-pub stop-when : {A : Type 0} {n : ℕ} {test : Bool} (next : Report A) → test ≡ true → refused n ≡ when test n next
-stop-when {n} next e = ap (λ (b : Bool). when b n next) (sym e)
-
-pub past-when : {A : Type 0} {test : Bool} {x : Report A} (n : ℕ) (next : Report A) → test ≡ false → x ≡ next → x ≡ when test n next
-past-when n next e r = r ∙ ap (λ (b : Bool). when b n next) (sym e)
 
 -- a range from 0 on has one end to test
 pub up-to : (x hi : ℕ) → x ≤ hi → inside 0 x hi ≡ true
@@ -40,7 +33,7 @@ pub stop-told : {A : Type 0} {answer test : Bool} {n : ℕ} (next : Report A) �
 stop-told next told e = stop-when next (sym told ∙ e)
 
 pub past-told : {A : Type 0} {answer test : Bool} {x : Report A} (n : ℕ) (next : Report A) → answer ≡ test → answer ≡ false → x ≡ next → x ≡ when test n next
-past-told n next told e = past-when n next (sym told ∙ e)
+past-told n next told e = past-when next n (sym told ∙ e)
 
 -- what follows a report of which a routine has answered a figure, or a refusal
 module _ {A : Type 0} {after : Report Line} {answer : Noted} (f : Line → Report A) (promise : noted answer ≡ after) where
@@ -87,10 +80,3 @@ pub holds-told : {answer test x : Bool} (other : Bool) → answer ≡ test → n
 holds-told other told e = holds other (held told e)
 
 pub ruleset parts = (fails, holds, fails-told, holds-told, up-to, above, arith)
-
--- whether x + y is at most a limit, as the code asks it without the sum
-pub over : (x y most : ℕ) → y ≤ most → most - y < x → leb (x + y) most ≡ false
-over x y most h less = lt-leb (x + y) most (omega arith)
-
-pub not-over : (x y most : ℕ) → y ≤ most → x ≤ most - y → leb (x + y) most ≡ true
-not-over x y most h le = le-leb (x + y) most (omega arith)

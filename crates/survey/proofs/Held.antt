@@ -15,8 +15,7 @@ use base.Fml.{Fml, fat, fsep}
 use prog.Wp.{Heap}
 use ghost.Atoms.{Atoms, sem}
 use contract.Monad.{fact}
-use types.Kit.{Given, Item, Goal, Soaks, Seq, Step, step, prop, mean, ‵, raw, some, later, _⊛_, _$_, _∵_, !, qed, by, move, use1}
-use types.Kit.{split, pick, fsplit, fjoin, fpick, fpack, suffices, await, done}
+use types.Kit.{Given, Item, Goal, Soaks, Seq, Step, step, prop, mean, ‵, raw, some, later, _⊛_, _$_, _∵_, !, qed, by, move, use1, split, pick, fsplit, fjoin, fpick, fpack, suffices, await, done}
 use denote.RattleType.{RattleType}
 use denote.Laws.{Is, shows}
 use denote.Memory.{mem, cellAt, partOf}

@@ -6,12 +6,13 @@ use mathlib.Core.List.{List}
 use lib.Dec.{ltb}
 use Rattle.biomass.specs.Report.{Report, refused, gives, when}
 use Rattle.codec.specs.Refusal.{number}
-use Rattle.survey.specs.Line.{begun, factorAt}
+use Rattle.line.specs.Line.{begun, factorAt}
 use Rattle.survey.specs.Survey.{mostLines, withSpecies, withFactor, withOpened, withRow, withEnd, declaredAs, declaring, giving, opening, ending}
-use Rattle.survey.specs.Apply.{measured, height, lineRow, onOpen, keeping}
+use Rattle.survey.specs.Apply.{onOpen, keeping}
+use Rattle.line.specs.AnyLine.{measured, height, lineRow}
 use Rattle.codec.specs.declared.command.Species.{Species}
 use Rattle.codec.specs.declared.command.Command.{Command}
-use Rattle.survey.specs.declared.line.Line.{Line}
+use Rattle.line.specs.declared.line.Line.{Line}
 use Rattle.survey.specs.declared.survey.Survey.{Survey}
 use Rattle.survey.specs.declared.change.Change.{Change}
 use Rattle.survey.specs.declared.change.Named.{Named}

@@ -9,7 +9,7 @@ use lib.Dec.{eqb}
 use lib.IntN.{pos}
 use Rattle.biomass.specs.Fraction.{Fraction, whole, _⊕_, _⊗_, _over_, _≼_}
 use Rattle.biomass.specs.Exact.{Given, NotBelow, NotAbove, exactRow}
-use Rattle.survey.specs.Line.{Estimate}
+use Rattle.line.specs.Line.{Estimate}
 use Rattle.survey.specs.Survey.{estimate}
 use Rattle.survey.specs.Closings.{closingsOf}
 use Rattle.survey.specs.Total.{Answer, refusedAt, totalled}

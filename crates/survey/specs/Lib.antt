@@ -7,7 +7,6 @@
 -- a command's bytes, and books
 pub mod Book
 -- lines and surveys
-pub mod Line
 pub mod Survey
 pub mod AsWritten
 pub mod Closings

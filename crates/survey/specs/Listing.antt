@@ -7,7 +7,7 @@ use Rattle.survey.specs.Book.{encodeAll}
 use Rattle.codec.specs.declared.command.Species as Declared
 use Rattle.codec.specs.declared.command.Command.{Command}
 use Rattle.codec.specs.declared.command.Command.the-variants.{Species, Factor, Open, Measured, Height, Close, End}
-use Rattle.survey.specs.declared.row.Row.{Row}
+use Rattle.line.specs.declared.row.Row.{Row}
 use Rattle.survey.specs.declared.total.Totals.{Totals}
 
 -- ---- "Book:"

@@ -6,7 +6,7 @@ use Rattle.biomass.specs.Report.{Report, refused, gives, _then_}
 use Rattle.codec.specs.Refusal.{number}
 use Rattle.codec.specs.Reading.{read}
 use Rattle.survey.specs.Change.{Own, own, notOwn, ownOf}
-use Rattle.survey.specs.declared.line.Line.{Line}
+use Rattle.line.specs.declared.line.Line.{Line}
 use Rattle.survey.specs.declared.playing.Noting.{Noting}
 
 -- the line after a command and the place after it, or a command that is not one of the line's own

@@ -7,7 +7,7 @@ use Rattle.biomass.specs.Report.{Report, refused, gives, unless}
 use Rattle.biomass.specs.Ends.{between}
 use Rattle.codec.specs.Refusal.{number}
 use Rattle.codec.specs.Bytes.{byte, numberAt, bytes}
-use Rattle.survey.specs.declared.row.Row.{Row}
+use Rattle.line.specs.declared.row.Row.{Row}
 use Rattle.survey.specs.declared.sheet.Found.{Found}
 use Rattle.survey.specs.declared.survey.Survey.{Survey}
 

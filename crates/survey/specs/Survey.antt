@@ -11,10 +11,10 @@ use Rattle.biomass.specs.Report.{Report, refused, gives, unless, _then_, when}
 use Rattle.biomass.specs.Limits.{mostMeasured, mostHeights, mostEstimated, greatestArea}
 use Rattle.biomass.specs.declared.tree.AverageTree.{AverageTree}
 use Rattle.codec.specs.Refusal.{number}
-use Rattle.survey.specs.Line.{begun, withTrees, withHeight, tariffOf, T-of, d-of, N-of, factorAt, factorFor, treeWith, Estimate, noTrees, estimatedRow, emptyRow}
+use Rattle.line.specs.Line.{begun, withTrees, withHeight, tariffOf, T-of, d-of, N-of, factorAt, factorFor, treeWith, Estimate, noTrees, estimatedRow, emptyRow}
 use Rattle.codec.specs.declared.command.Species.{Species}
-use Rattle.survey.specs.declared.row.Row.{Row}
-use Rattle.survey.specs.declared.line.Line.{Line}
+use Rattle.line.specs.declared.row.Row.{Row}
+use Rattle.line.specs.declared.line.Line.{Line}
 use Rattle.survey.specs.declared.survey.Survey.{Survey}
 use Rattle.survey.specs.declared.survey.Outcome.{Outcome}
 use Rattle.survey.specs.declared.survey.Applied.{Applied}

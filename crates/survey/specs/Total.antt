@@ -12,7 +12,7 @@ use Rattle.codec.specs.Bytes.{storedAt}
 use Rattle.survey.specs.AsWritten.{asWritten}
 use Rattle.survey.specs.Playing.{Played, ended, stopped, playBy}
 use Rattle.survey.specs.Sheet.{sheetLength, sheetBytes, rowsOf}
-use Rattle.survey.specs.declared.row.Row.{Row}
+use Rattle.line.specs.declared.row.Row.{Row}
 use Rattle.survey.specs.declared.total.Totals.{Totals}
 use Rattle.survey.specs.declared.total.Totalled.{Totalled}
 

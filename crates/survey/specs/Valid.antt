@@ -8,13 +8,13 @@ use Rattle.powers.specs.Diameter.{greatestD}
 use Rattle.biomass.specs.Limits.{mostMeasured, mostHeights, mostEstimated, greatestArea}
 use Rattle.biomass.specs.Law.Report.{Inside}
 use Rattle.biomass.specs.Law.Tree.{RowBounds}
-use Rattle.survey.specs.Line.{factorAt, emptyRow}
+use Rattle.line.specs.Line.{factorAt, emptyRow}
 use Rattle.survey.specs.Survey.{mostLines, noLine, speciesAt, declared, anyLine, opened}
 use Rattle.codec.specs.declared.command.Species.{Species}
-use Rattle.survey.specs.declared.row.Row.{Row}
-use Rattle.survey.specs.declared.line.Tally.{Tally}
-use Rattle.survey.specs.declared.line.Heights.{Heights}
-use Rattle.survey.specs.declared.line.Line.{Line}
+use Rattle.line.specs.declared.row.Row.{Row}
+use Rattle.line.specs.declared.line.Tally.{Tally}
+use Rattle.line.specs.declared.line.Heights.{Heights}
+use Rattle.line.specs.declared.line.Line.{Line}
 use Rattle.survey.specs.declared.survey.Survey.{Survey}
 
 -- a species in its ranges

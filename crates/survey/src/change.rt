@@ -1,23 +1,23 @@
 // What a command changes. It is decided on the few values of a survey that the command looks at, so that whoever plays a
 // book stores the change in its place and copies no survey. The checks of every command stand here, once; those of a line's
 // own commands stand with the line.
-use super::line::Closed;
-use super::line::Line;
-use super::line::Noted;
-use super::row::Row;
 use super::survey::MOST_LINES;
 use biomass::limits::GREATEST_AREA;
 use biomass::whole::within;
 use codec::command::Command;
 use codec::command::Species;
 use codec::refusal::Refusal;
+use line::line::Closed;
+use line::line::Line;
+use line::line::Noted;
+use line::row::Row;
 ghost use mathlib.Core.Path.{_≡_};
 ghost use lib.ListN.{take};
 ghost use lib.Dec.{ltb};
 ghost use Rattle.biomass.specs.Report.{gives};
-ghost use Rattle.survey.specs.Line.{factorAt};
+ghost use Rattle.line.specs.Line.{factorAt};
 ghost use Rattle.survey.specs.Survey.{speciesInRange, declaredAs, declaring, giving, isLine, anyLine, areasInRange};
-ghost use Rattle.survey.specs.Apply.{noted};
+ghost use Rattle.line.specs.AnyLine.{noted};
 ghost use Rattle.survey.specs.Change.{told, named, opens, notes, closes, ends, decided};
 
 // What a taken command changes, or why it is refused.

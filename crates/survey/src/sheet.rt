@@ -1,6 +1,4 @@
 // The sheet: the rows of the closed lines, one after the other, from byte 0 on in closing order.
-use super::row::ROW_LENGTH;
-use super::row::Row;
 use super::survey::MOST_LINES;
 use biomass::units::BiomassRange;
 use biomass::units::Milligrams;
@@ -9,6 +7,8 @@ use codec::bytes::four;
 use codec::bytes::store;
 use codec::bytes::two;
 use codec::refusal::Refusal;
+use line::row::ROW_LENGTH;
+use line::row::Row;
 ghost use mathlib.Core.Path.{_≡_};
 ghost use Prim.Native.Nat.{_+_, _≤_};
 ghost use lib.ListN.{length, take};

@@ -1,6 +1,5 @@
 // Totalling a book into a lent sheet.
 use super::playing::play;
-use super::row::Row;
 use super::sheet::SHEET_LENGTH;
 use super::sheet::store_rows;
 use super::survey::MOST_LINES;
@@ -12,6 +11,7 @@ use biomass::units::CarbonRange;
 use biomass::units::Milligrams;
 use codec::refusal::Refusal;
 use codec::refusal::of_figure;
+use line::row::Row;
 ghost use mathlib.Core.Path.{_≡_};
 ghost use Prim.Native.Nat.{_≤_};
 ghost use lib.ListN.{length, take};

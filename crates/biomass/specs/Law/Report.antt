@@ -5,7 +5,7 @@ use mathlib.Core.Bool.{Bool, true, false, not, cond, false≢true}
 use lib.Dec.{leb}
 use borrow.Author.Tests.{leb-true, le-leb, not-true, not-false}
 use Rattle.biomass.specs.Whole.{inside}
-use Rattle.biomass.specs.Report.{Report, refused, gives, unless, _then_, refusalNumber, count, biomass}
+use Rattle.biomass.specs.Report.{Report, refused, gives, unless, when, _then_, refusalNumber, count, biomass}
 use Rattle.biomass.specs.declared.units.BiomassRange.{BiomassRange}
 use Rattle.biomass.specs.declared.answer.Refusal.{Refusal}
 use Rattle.biomass.specs.declared.answer.Count.{Count}
@@ -60,6 +60,12 @@ module _ {A : Type 0} {test : Bool} (next : Report A) where
 
   pub past-unless : {x : Report A} (n : ℕ) → test ≡ true → x ≡ next → x ≡ unless test n next
   past-unless n e r = r ∙ ap (λ (b : Bool). unless b n next) (sym e)
+
+  pub stop-when : {n : ℕ} → test ≡ true → refused n ≡ when test n next
+  stop-when {n} e = ap (λ (b : Bool). when b n next) (sym e)
+
+  pub past-when : {x : Report A} (n : ℕ) → test ≡ false → x ≡ next → x ≡ when test n next
+  past-when n e r = r ∙ ap (λ (b : Bool). when b n next) (sym e)
 
 -- what is made of the figure that a routine answers; and of what it declines, whose number is handed on
 module _ {A : Type 0} {first : Report ℕ} {answer : Count} (f : ℕ → Report A) (promise : count answer ≡ first) where

@@ -19,16 +19,17 @@ use Rattle.biomass.specs.Law.Tariff.{single-tariff-range, line-tariff-range}
 use Rattle.biomass.specs.Law.Mean.{mean-range}
 use Rattle.biomass.specs.Law.Tree.{Operands}
 use Rattle.biomass.specs.Law.Answers.{mean-answers, trees-answers, line-tariff-answers, row-answers}
-use Rattle.survey.specs.Line.{tallied, tariffOf, T-of, d-of, N-of, wholeCm, noTrees, estimatedRow, emptyRow}
+use Rattle.line.specs.Line.{tallied, tariffOf, T-of, d-of, N-of, wholeCm, noTrees, estimatedRow, emptyRow}
 use Rattle.survey.specs.Survey.{mostLines, withRow, measure, giveHeight, f-of, treeAt, someTrees, estimate, closingRow, close}
 use Rattle.survey.specs.AsWritten.{asWritten}
-use Rattle.survey.specs.Apply.{mostSquares, mostTariffs, measured, height, worked, lineRow, applyMeasured, applyHeight, keeping, applyClose, apply}
+use Rattle.survey.specs.Apply.{applyMeasured, applyHeight, keeping, applyClose, apply}
+use Rattle.line.specs.AnyLine.{mostSquares, mostTariffs, measured, height, worked, lineRow}
 use Rattle.survey.specs.Valid.{ValidSpecies, ValidTally, ValidHeights, Valid}
 use Rattle.survey.specs.Law.Checks.{when-same, unless-same, when-then, unless-then, cond-then, then-then, passed-then, answered-then}
 use Rattle.codec.specs.declared.command.Command.{Command}
-use Rattle.survey.specs.declared.row.Row.{Row}
-use Rattle.survey.specs.declared.line.Tally.{Tally}
-use Rattle.survey.specs.declared.line.Heights.{Heights}
+use Rattle.line.specs.declared.row.Row.{Row}
+use Rattle.line.specs.declared.line.Tally.{Tally}
+use Rattle.line.specs.declared.line.Heights.{Heights}
 use Rattle.survey.specs.declared.survey.Survey.{Survey}
 
 -- ---- measured trees and height trees

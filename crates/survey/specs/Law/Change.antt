@@ -11,14 +11,15 @@ use borrow.Author.Tests.{leb-false}
 use Rattle.biomass.specs.Whole.{inside}
 use Rattle.biomass.specs.Report.{Report, refused, gives, _then_, when}
 use Rattle.biomass.specs.Law.Report.{inside-true}
-use Rattle.survey.specs.Line.{begun}
+use Rattle.line.specs.Line.{begun}
 use Rattle.survey.specs.Survey.{speciesAt, withState, withLine, speciesInRange, declaredAs, declaring, declare, giveFactor, opened, opening, openLine, finish}
-use Rattle.survey.specs.Apply.{measured, height, onOpen, onLine, applyMeasured, applyHeight, applyClose, apply}
+use Rattle.survey.specs.Apply.{onOpen, onLine, applyMeasured, applyHeight, applyClose, apply}
+use Rattle.line.specs.AnyLine.{measured, height}
 use Rattle.survey.specs.Change.{changed, HasPlace, told, named, seenOf, opens, notes, changeOf, decided, own, notOwn, ownOf}
 use Rattle.survey.specs.Law.Checks.{Gives, when-such, passed, when-then, unless-then, then-then, species-in-range}
 use Rattle.codec.specs.declared.command.Species.{Species}
 use Rattle.codec.specs.declared.command.Command.{Command}
-use Rattle.survey.specs.declared.line.Line.{Line}
+use Rattle.line.specs.declared.line.Line.{Line}
 use Rattle.survey.specs.declared.survey.Survey.{Survey}
 use Rattle.survey.specs.declared.change.Change.{Change}
 use Rattle.survey.specs.declared.change.Named.{Named}

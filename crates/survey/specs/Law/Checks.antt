@@ -13,7 +13,7 @@ use Rattle.biomass.specs.Law.Gives.{never, figure-is}
 use Rattle.survey.specs.Survey.{speciesAt, speciesInRange, declared, isLine}
 use Rattle.survey.specs.Valid.{ValidSpecies}
 use Rattle.codec.specs.declared.command.Species.{Species}
-use Rattle.survey.specs.declared.row.Row.{Row}
+use Rattle.line.specs.declared.row.Row.{Row}
 use Rattle.survey.specs.declared.survey.Survey.{Survey}
 
 -- ---- what a report gives: its figure is such where it is past the last check, by all that the checks before it say

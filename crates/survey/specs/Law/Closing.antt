@@ -11,14 +11,14 @@ use Rattle.biomass.specs.Limits.{mostEstimated}
 use Rattle.biomass.specs.Tree.{treeOf, row, rowOf}
 use Rattle.biomass.specs.Law.Tree.{row-bounds}
 use Rattle.biomass.specs.Law.Answers.{row-answers}
-use Rattle.survey.specs.Line.{N-of, Estimate, estimatedRow}
+use Rattle.line.specs.Line.{N-of, Estimate, estimatedRow}
 use Rattle.survey.specs.Survey.{mostLines, withRow, f-of, treeAt, estimate, closingRow, close}
 use Rattle.survey.specs.Apply.{apply}
 use Rattle.survey.specs.Valid.{Within, Valid}
 use Rattle.survey.specs.Law.Checks.{Gives, passed, declared-true}
 use Rattle.survey.specs.Law.AsWritten.{estimate-by, line-operands, not-zero, as-written}
 use Rattle.codec.specs.declared.command.Command.{Command}
-use Rattle.survey.specs.declared.line.Line.{Line}
+use Rattle.line.specs.declared.line.Line.{Line}
 use Rattle.survey.specs.declared.survey.Survey.{Survey}
 
 -- what is estimated of a line that closes

@@ -23,7 +23,7 @@ use Rattle.survey.specs.Law.Valid.{fresh-valid, after-valid}
 use Rattle.survey.specs.Law.Reach.{AllFit, reach-of-list}
 use Rattle.survey.specs.Law.Playing.{play-as-written, play-reaches}
 use Rattle.codec.specs.declared.command.Command.{Command}
-use Rattle.survey.specs.declared.row.Row.{Row}
+use Rattle.line.specs.declared.row.Row.{Row}
 use Rattle.survey.specs.declared.survey.Survey.{Survey}
 
 -- what is estimated of each of these surveys' open lines was worked

@@ -17,7 +17,7 @@ use Rattle.biomass.specs.Law.Signed.{pos-le}
 use Rattle.biomass.specs.Law.Fraction.{≼-refl, ≼-trans, ⊕-mono, ⊗-mono, whole-⊕, share-not-under, share-not-over}
 use Rattle.biomass.specs.Law.Exact.{row-den, row-not-under, row-not-over}
 use Rattle.biomass.specs.declared.units.Grams.{Grams}
-use Rattle.survey.specs.Line.{Estimate, emptyRow}
+use Rattle.line.specs.Line.{Estimate, emptyRow}
 use Rattle.survey.specs.Survey.{mostLines, noLine, estimate, closingRow}
 use Rattle.survey.specs.AsWritten.{asWritten}
 use Rattle.survey.specs.Closings.{closingsOf}
@@ -31,7 +31,7 @@ use Rattle.survey.specs.Law.Sums.{RowsSmall, sums-small}
 use Rattle.survey.specs.Law.Playing.{play-valid, play-as-written}
 use Rattle.survey.specs.Law.Closings.{AllClosed, no-line, and-lines, all-lines-closed, rows-are}
 use Rattle.survey.specs.Law.Total.{of-answer}
-use Rattle.survey.specs.declared.row.Row.{Row}
+use Rattle.line.specs.declared.row.Row.{Row}
 use Rattle.survey.specs.declared.survey.Survey.{Survey}
 
 -- ---- the rows

@@ -14,19 +14,20 @@ use Rattle.biomass.specs.Limits.{mostMeasured, mostHeights, greatestArea}
 use Rattle.biomass.specs.Law.Report.{Inside, inside-true, both-true}
 use Rattle.biomass.specs.Law.Tariff.{single-tariff-range}
 use Rattle.codec.specs.Command.{Fits}
-use Rattle.survey.specs.Line.{lineWith, begun, withTrees, withHeight, tariffOf, factorAt}
+use Rattle.line.specs.Line.{lineWith, begun, withTrees, withHeight, tariffOf, factorAt}
 use Rattle.survey.specs.Survey.{mostLines, speciesAt, withState, withSpecies, withFactor, withOpened, withLine, withRow, withEnd, speciesInRange, declared, declare, giveFactor, opened, areasInRange, openLine, finish}
 use Rattle.survey.specs.Closings.{closing}
-use Rattle.survey.specs.Apply.{measured, height, onLine, applyMeasured, applyHeight, applyClose, apply}
+use Rattle.survey.specs.Apply.{onLine, applyMeasured, applyHeight, applyClose, apply}
+use Rattle.line.specs.AnyLine.{measured, height}
 use Rattle.survey.specs.Valid.{ValidSpecies, ValidTally, ValidHeights, ValidLine, Valid}
 use Rattle.survey.specs.Law.Checks.{Gives, gives-such, when-such, unless-such, then-such, passed, species-in-range}
 use Rattle.survey.specs.Law.AsWritten.{tallied-valid, height-added}
 use Rattle.codec.specs.declared.command.Species.{Species}
 use Rattle.codec.specs.declared.command.Command.{Command}
-use Rattle.survey.specs.declared.row.Row.{Row}
-use Rattle.survey.specs.declared.line.Tally.{Tally}
-use Rattle.survey.specs.declared.line.Heights.{Heights}
-use Rattle.survey.specs.declared.line.Line.{Line}
+use Rattle.line.specs.declared.row.Row.{Row}
+use Rattle.line.specs.declared.line.Tally.{Tally}
+use Rattle.line.specs.declared.line.Heights.{Heights}
+use Rattle.line.specs.declared.line.Line.{Line}
 use Rattle.survey.specs.declared.survey.Survey.{Survey}
 
 -- ---- the four

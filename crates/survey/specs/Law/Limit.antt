@@ -9,7 +9,8 @@ use Rattle.biomass.specs.Report.{refused}
 use Rattle.biomass.specs.Limits.{mostMeasured, mostHeights}
 use Rattle.biomass.specs.Law.Declines.{Declines}
 use Rattle.survey.specs.Survey.{mostLines, declare, giveFactor, openLine, finish}
-use Rattle.survey.specs.Apply.{measured, height, applyMeasured, applyHeight, applyClose, apply}
+use Rattle.survey.specs.Apply.{applyMeasured, applyHeight, applyClose, apply}
+use Rattle.line.specs.AnyLine.{measured, height}
 use Rattle.survey.specs.Valid.{Valid}
 use Rattle.survey.specs.Law.Named.{refusals, line-row-declines, only-named}
 use Rattle.codec.specs.declared.command.Command.{Command}

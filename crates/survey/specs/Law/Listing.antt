@@ -17,11 +17,12 @@ use Rattle.biomass.specs.Tree.{tree, row}
 use Rattle.codec.specs.Reading.{speciesFrom, factorFrom, openFrom, measuredFrom, heightFrom, commandFrom, read}
 use Rattle.codec.specs.Bytes.{storedAt}
 use Rattle.survey.specs.Book.{encodeAll, reachUpTo, reach}
-use Rattle.survey.specs.Line.{begun, treeWith, Estimate, noTrees, emptyRow}
+use Rattle.line.specs.Line.{begun, treeWith, Estimate, noTrees, emptyRow}
 use Rattle.survey.specs.Survey.{noLine, fresh, declare, giveFactor, opened, openLine, measure, giveHeight, estimate, closingRow, close, finish}
 use Rattle.survey.specs.AsWritten.{asWritten}
 use Rattle.survey.specs.Closings.{closings, closingsOf}
-use Rattle.survey.specs.Apply.{measured, height, worked, lineRow, applyMeasured, applyHeight, applyClose}
+use Rattle.survey.specs.Apply.{applyMeasured, applyHeight, applyClose}
+use Rattle.line.specs.AnyLine.{measured, height, worked, lineRow}
 use Rattle.survey.specs.Playing.{ended, stepBy, playUpToBy, playBy, play}
 use Rattle.survey.specs.Sheet.{rowLength, sheetLength, rowBytes, sheetBytes}
 use Rattle.survey.specs.Total.{totalled, sumOf, totalOf, total, sheetAfter}

@@ -13,11 +13,12 @@ use Rattle.biomass.specs.Law.Report.{both-true}
 use Rattle.biomass.specs.Law.Declines.{Declines, six-declines, six-or-thirteen-declines, single-tariff-declines, line-tariff-declines, mean-declines, trees-declines, row-declines, declined}
 use Rattle.survey.specs.Survey.{declare, giveFactor, openLine, measure, giveHeight, close, finish}
 use Rattle.survey.specs.AsWritten.{asWritten, numbersOf, isIn}
-use Rattle.survey.specs.Apply.{measured, height, worked, lineRow, applyMeasured, applyHeight, applyClose, apply}
+use Rattle.survey.specs.Apply.{applyMeasured, applyHeight, applyClose, apply}
+use Rattle.line.specs.AnyLine.{measured, height, worked, lineRow}
 use Rattle.survey.specs.Valid.{Valid}
 use Rattle.survey.specs.Law.AsWritten.{as-written}
 use Rattle.codec.specs.declared.command.Command.{Command}
-use Rattle.survey.specs.declared.line.Line.{Line}
+use Rattle.line.specs.declared.line.Line.{Line}
 use Rattle.survey.specs.declared.survey.Survey.{Survey}
 
 abbrev In : List ℕ → ℕ → Type 0

@@ -21,7 +21,7 @@ use Rattle.biomass.specs.Law.Fraction.{≼-refl, ⊕-mono, ⊗-mono}
 use Rattle.biomass.specs.Law.Power.{units, w-not-above, next-w-not-below, y-not-above, next-y-not-below}
 use Rattle.biomass.specs.Law.Exact.{tree-ordered}
 use Rattle.biomass.specs.declared.tree.AverageTree.{AverageTree}
-use Rattle.survey.specs.Line.{Estimate}
+use Rattle.line.specs.Line.{Estimate}
 use Rattle.survey.specs.Playing.{Played, ended, stopped, play}
 use Rattle.survey.specs.Sheet.{rowsOf}
 use Rattle.survey.specs.Total.{Answer, refusedAt, totalled, sumOf, treesOf, totalOf, answerOf, total}

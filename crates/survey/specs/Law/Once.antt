@@ -7,7 +7,7 @@ use mathlib.Core.Bool.{true, true≢false}
 use mathlib.Core.List.{List}
 use lib.Seq.{getD-set-other}
 use Rattle.biomass.specs.Report.{gives}
-use Rattle.survey.specs.Line.{factorAt, emptyRow}
+use Rattle.line.specs.Line.{factorAt, emptyRow}
 use Rattle.survey.specs.Survey.{undeclared, noLine, speciesAt, declared}
 use Rattle.survey.specs.Apply.{apply}
 use Rattle.survey.specs.Valid.{rowAt}

@@ -35,7 +35,7 @@ use Rattle.survey.specs.Law.Valid.{fresh-valid, apply-valid}
 use Rattle.survey.specs.Law.AsWritten.{as-written}
 use Rattle.survey.specs.Law.Named.{ofApplying, in-other, refusal-of-applying}
 use Rattle.codec.specs.declared.command.Command.{Command}
-use Rattle.survey.specs.declared.line.Line.{Line}
+use Rattle.line.specs.declared.line.Line.{Line}
 use Rattle.survey.specs.declared.survey.Survey.{Survey}
 
 -- ---- one command

@@ -10,7 +10,7 @@ use borrow.Author.Tests.{le-ltb}
 use Rattle.biomass.specs.Report.{gives}
 use Rattle.codec.specs.Bytes.{AllBytes}
 use Rattle.codec.specs.Command.{Fits}
-use Rattle.survey.specs.Line.{emptyRow}
+use Rattle.line.specs.Line.{emptyRow}
 use Rattle.survey.specs.Survey.{mostLines, noLine, fresh, closingRow}
 use Rattle.survey.specs.Valid.{rowAt, Valid}
 use Rattle.survey.specs.Playing.{ended, play}
@@ -24,7 +24,7 @@ use Rattle.survey.specs.Law.Valid.{always, fresh-valid, set-cases}
 use Rattle.survey.specs.Law.Playing.{taken, step-valid, kept-to-the-end, play-valid}
 use Rattle.survey.specs.Law.Total.{sheet-applied}
 use Rattle.codec.specs.declared.command.Command.{Command}
-use Rattle.survey.specs.declared.row.Row.{Row}
+use Rattle.line.specs.declared.row.Row.{Row}
 use Rattle.survey.specs.declared.survey.Survey.{Survey}
 
 -- ---- strata are bytes

@@ -17,7 +17,7 @@ use Rattle.survey.specs.Valid.{Valid}
 use Rattle.survey.specs.Sheet.{rowLength, sheetLength, rowBytes, sheetBytes, rowsOf, rowFrom, findRow}
 use Rattle.codec.specs.Law.Bytes.{Stands, before, stands-at, stands-first, stands-second, stands-taken, byte-alone, number-of-bytes}
 use Rattle.codec.specs.Law.Storing.{length-stored, stands-stored, stored-keeps, stored-then}
-use Rattle.survey.specs.declared.row.Row.{Row}
+use Rattle.line.specs.declared.row.Row.{Row}
 use Rattle.survey.specs.declared.survey.Survey.{Survey}
 
 -- ---- how long rows are

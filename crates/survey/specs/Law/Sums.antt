@@ -12,7 +12,7 @@ use Rattle.biomass.specs.Law.Report.{true-inside}
 use Rattle.biomass.specs.Law.Tree.{greatestRow}
 use Rattle.survey.specs.Survey.{mostLines}
 use Rattle.survey.specs.Total.{sumOf, treesOf, lowOf, highOf, sums}
-use Rattle.survey.specs.declared.row.Row.{Row}
+use Rattle.line.specs.declared.row.Row.{Row}
 
 -- rows whose figures are within those of the greatest row (biomass/specs/Law/Tree.antt), as those of a valid survey are (Law.Demand3: rows-small)
 pub data RowsSmall : List Row → Type 0 where

@@ -13,7 +13,7 @@ use lib.Seq.{getD-set-same, getD-set-other, take-suc-set}
 use lib.Dec.{ltb}
 use Rattle.biomass.specs.Whole.{inside}
 use Rattle.biomass.specs.Report.{Report, refused, gives}
-use Rattle.survey.specs.Line.{factorAt, emptyRow}
+use Rattle.line.specs.Line.{factorAt, emptyRow}
 use Rattle.survey.specs.Survey.{leaves, mostLines, undeclared, noLine, fresh, speciesAt, withTables, withState, declared, isLine, anyLine, opened, closingRow}
 use Rattle.survey.specs.Apply.{apply, reached}
 use Rattle.survey.specs.Valid.{ValidSpecies, ValidFactor, ValidLine, Within, Apart, none, more, Valid}
@@ -24,8 +24,8 @@ use Rattle.survey.specs.Law.Effect.{Follows, Effect, a-species, a-factor
 use Rattle.survey.specs.Law.Once.{species-stay}
 use Rattle.codec.specs.declared.command.Species.{Species}
 use Rattle.codec.specs.declared.command.Command.{Command}
-use Rattle.survey.specs.declared.row.Row.{Row}
-use Rattle.survey.specs.declared.line.Line.{Line}
+use Rattle.line.specs.declared.row.Row.{Row}
+use Rattle.line.specs.declared.line.Line.{Line}
 use Rattle.survey.specs.declared.survey.Survey.{Survey}
 
 -- ---- the fresh survey

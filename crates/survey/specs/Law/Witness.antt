@@ -9,9 +9,10 @@ use lib.Seq.{getD-set-same}
 use lib.Dec.{lit≤, lit<}
 use Rattle.biomass.specs.Report.{Report, refused, gives}
 use Rattle.biomass.specs.Limits.{mostMeasured, mostHeights}
-use Rattle.survey.specs.Line.{begun, withTrees, factorAt}
+use Rattle.line.specs.Line.{begun, withTrees, factorAt}
 use Rattle.survey.specs.Survey.{After, leaves, mostLines, undeclared, fresh, speciesAt, withSpecies, withOpened, withLine, declare, opened, openLine, finish}
-use Rattle.survey.specs.Apply.{measured, applyMeasured, apply}
+use Rattle.survey.specs.Apply.{applyMeasured, apply}
+use Rattle.line.specs.AnyLine.{measured}
 use Rattle.survey.specs.Valid.{Valid}
 use Rattle.survey.specs.Listing.{listed, species3, line1, fourTrees}
 use Rattle.survey.specs.Law.Checks.{true-declared}

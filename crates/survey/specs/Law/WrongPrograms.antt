@@ -19,7 +19,8 @@ use Rattle.codec.specs.Bytes.{byte, numberAt, storedAt}
 use Rattle.codec.specs.Reading.{speciesFrom, openFrom, commandFrom, read}
 use Rattle.survey.specs.Book.{encodeAll}
 use Rattle.survey.specs.Survey.{fresh, declare, opened, openLine, finish}
-use Rattle.survey.specs.Apply.{lineRow, applyClose}
+use Rattle.survey.specs.Apply.{applyClose}
+use Rattle.line.specs.AnyLine.{lineRow}
 use Rattle.survey.specs.Playing.{stepBy, playUpToBy, play}
 use Rattle.survey.specs.Sheet.{rowLength, sheetLength, rowBytes, sheetBytes}
 use Rattle.survey.specs.Total.{Answer, refusedAt, totalled, total, sheetAfter}

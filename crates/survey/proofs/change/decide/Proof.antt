@@ -6,10 +6,10 @@ use mathlib.Core.List.{List}
 use Rattle.biomass.specs.Report.{Report}
 use Rattle.survey.specs.Change.{notes, changeOf}
 use Rattle.codec.specs.declared.command.Command.{Command}
-use Rattle.survey.specs.declared.line.Line.{Line}
+use Rattle.line.specs.declared.line.Line.{Line}
 use Rattle.survey.specs.declared.change.Change.{Change}
 use Rattle.survey.specs.declared.change.Seen.{Seen}
-use Rattle.survey.proofs.Check.{stop-when, past-when}
+use Rattle.biomass.specs.Law.Report.{stop-when, past-when}
 use borrow.Author.Needs.{needs}
 use Rattle.survey.proofs.change.decide.Statement.{statement}
 use Rattle.survey.proofs.change.decide.Tie as tie

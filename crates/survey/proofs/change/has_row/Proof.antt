@@ -8,7 +8,7 @@ use native.Mathlib.Numerals.{add-one}
 use lib.ListN.{length, getD, take, drop, length-take, drop-of-length-le}
 use lib.Seq.{drop-cons, getD-take}
 use Rattle.survey.specs.Survey.{mostLines, isLine, anyLine}
-use Rattle.survey.specs.declared.row.Row.{Row}
+use Rattle.line.specs.declared.row.Row.{Row}
 use Rattle.survey.specs.declared.change.Named.{Named}
 use Rattle.survey.proofs.change.has_row.Statement.{statement}
 use Rattle.survey.proofs.change.has_row.Tie as tie

@@ -1,7 +1,7 @@
 -- `survey::change::opening` meets its contract: each test of the code is the definition's, in the same order.
 use mathlib.Core.Path.{_≡_, ap}
 use Rattle.biomass.specs.Report.{gives}
-use Rattle.survey.specs.declared.line.Line.{Line}
+use Rattle.line.specs.declared.line.Line.{Line}
 use Rattle.survey.specs.declared.change.Change.{Change}
 use Rattle.survey.proofs.Check.{survey-checks}
 use Rattle.survey.proofs.change.opening.Statement.{statement}

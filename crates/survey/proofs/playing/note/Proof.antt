@@ -14,7 +14,7 @@ use Rattle.survey.specs.Noting.{Note, notOfTheLine, notedTo, noteBy, not
 use Rattle.codec.specs.declared.refusal.Refusal.{Refusal}
 use Rattle.codec.specs.declared.command.Command.{Command}
 use Rattle.codec.specs.declared.reading.Reading.{Reading}
-use Rattle.survey.specs.declared.line.Line.{Line}
+use Rattle.line.specs.declared.line.Line.{Line}
 use Rattle.codec.proofs.command.Command.{the-type}
 use Rattle.survey.proofs.playing.note.Statement.{statement}
 use Rattle.survey.proofs.playing.note.Tie as tie

@@ -1,7 +1,7 @@
 -- `survey::playing::noted_to` meets its contract, by cases on what became of the line.
 use mathlib.Core.Path.{ap, refl}
 use Rattle.biomass.specs.Law.Report.{stops, follows}
-use Rattle.survey.specs.Apply.{noted}
+use Rattle.line.specs.AnyLine.{noted}
 use Rattle.survey.proofs.playing.noted_to.Statement.{statement}
 use Rattle.survey.proofs.playing.noted_to.Tie as tie
 

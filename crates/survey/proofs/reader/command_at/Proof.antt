@@ -20,11 +20,9 @@ use contract.BorrowLft.{meet-⊑-right}
 use contract.Lifetimes.{Lfts}
 use contract.Monad.{Fun, fact}
 use contract.Running.{givenOf, tables, tablesOf}
-use types.Kit.{Given, Item, ‵, raw, ⋆, some, later, _⊛_, _$_, _∵_, !, qed, by, move, keep, drop, use1, use2, use3, split, join, pick}
-use types.Kit.{rewrite, fsplit, fjoin, suffices, frame, await, done}
+use types.Kit.{Given, Item, ‵, raw, ⋆, some, later, _⊛_, _$_, _∵_, !, qed, by, move, keep, drop, use1, use2, use3, split, join, pick, rewrite, fsplit, fjoin, suffices, frame, await, done}
 use types.Part.{agg, whole, sub, look-in, store-in}
-use types.Run.{look, init, forget, stop, fld, from, load, addr, of-opd, and-then, no-more, assigns, land, returns}
-use types.Run.{enter, alloc1, alloc0, params1, pass1, pass0, free1, free0}
+use types.Run.{look, init, forget, stop, fld, from, load, addr, of-opd, and-then, no-more, assigns, land, returns, enter, alloc1, alloc0, params1, pass1, pass0, free1, free0}
 use types.SemTy.{Body}
 use types.Tokens.{lft-new}
 use borrow.Within.Token.{Rest, within-token, within-end}

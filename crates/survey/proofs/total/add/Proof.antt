@@ -11,7 +11,7 @@ use Rattle.biomass.specs.Law.Tree.{greatestRow}
 use Rattle.survey.specs.Survey.{mostLines}
 use Rattle.survey.specs.Total.{sumOf, treesOf, lowOf, highOf}
 use Rattle.survey.specs.Law.Sums.{first-small, sums-small, sum-one-more}
-use Rattle.survey.specs.declared.row.Row.{Row}
+use Rattle.line.specs.declared.row.Row.{Row}
 use Rattle.survey.proofs.total.add.Statement.{statement}
 use Rattle.survey.proofs.total.add.Tie as tie
 

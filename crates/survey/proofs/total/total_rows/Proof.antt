@@ -19,7 +19,7 @@ use Rattle.codec.specs.Bytes.{storedAt}
 use Rattle.survey.specs.Total.{totalled, sumOf, treesOf, sums, totalOf}
 use Rattle.survey.specs.Law.Sums.{RowsSmall, project-gives}
 use Rattle.survey.specs.Law.Sheet.{laid-length}
-use Rattle.survey.specs.declared.row.Row.{Row}
+use Rattle.line.specs.declared.row.Row.{Row}
 use Rattle.survey.proofs.total.total_rows.Statement.{statement}
 use Rattle.survey.proofs.total.total_rows.Tie as tie
 

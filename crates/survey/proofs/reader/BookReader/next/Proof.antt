@@ -20,11 +20,9 @@ use ghost.Atoms.{Atoms, sem}
 use contract.Lifetimes.{AllOutlive}
 use contract.Monad.{Fun, fact}
 use contract.Running.{givenOf, tables, tablesOf}
-use types.Kit.{Given, Item, ‵, raw, given, ⋆, _⊛_, _$_, _∵_, !, qed, by, move, keep, drop, use1, use2, split, join, learn, rewrite}
-use types.Kit.{fsplit, fsplit3, fjoin, fjoin3, feqI, suffices, frame, done}
+use types.Kit.{Given, Item, ‵, raw, given, ⋆, _⊛_, _$_, _∵_, !, qed, by, move, keep, drop, use1, use2, split, join, learn, rewrite, fsplit, fsplit3, fjoin, fjoin3, feqI, suffices, frame, done}
 use types.Part.{whole, sub, look-in, store-in}
-use types.Run.{look, store, init, forget, stop, hop, fld, from, load, of-opd, and-then, no-more, assigns, land, returns}
-use types.Run.{enter, alloc1, alloc0, params1, pass1, pass0, free1, free0}
+use types.Run.{look, store, init, forget, stop, hop, fld, from, load, of-opd, and-then, no-more, assigns, land, returns, enter, alloc1, alloc0, params1, pass1, pass0, free1, free0}
 use types.SemTy.{Body}
 use sound.WpLaws.{FmC, fmOf, WpFn-mono}
 use denote.RattleType.{owns}

@@ -1,4 +1,4 @@
--- `survey::line::Line::height` meets its contract: the single tariff's refusal is the line's, and then each test of the code is the definition's.
+-- `line::line::Line::height` meets its contract: the single tariff's refusal is the line's, and then each test of the code is the definition's.
 use Prim.Native.Nat.{ℕ, _≤_}
 use native.Mathlib.Nat.{le-trans}
 use mathlib.Core.Path.{_≡_, _∙_, sym, ap}
@@ -6,20 +6,20 @@ use borrow.Author.Needs.{needs}
 use borrow.Author.Tests.{le-leb, lt-leb}
 use lib.Dec.{lit≤}
 use Rattle.biomass.specs.Report.{count}
-use Rattle.biomass.specs.Law.Report.{stop-unless, past-unless, follows-count, stops-count}
+use Rattle.biomass.specs.Law.Report.{stop-unless, past-unless, follows-count, stops-count, stop-when, past-when}
 use Rattle.biomass.specs.Law.Tariff.{single-tariff-range}
 use Rattle.biomass.specs.declared.answer.Count.{Count}
-use Rattle.survey.specs.Line.{tariffOf}
-use Rattle.survey.specs.Apply.{mostTariffs, height}
+use Rattle.line.specs.Line.{tariffOf}
+use Rattle.line.specs.AnyLine.{mostTariffs, height}
 use Rattle.codec.specs.declared.command.Species.{Species}
-use Rattle.survey.proofs.Check.{stop-when, past-when, over, not-over}
-use Rattle.survey.proofs.line.Line.height.Statement.{statement}
-use Rattle.survey.proofs.line.Line.height.Tie as tie
+use Rattle.line.proofs.Limit.{above-limit, within-limit}
+use Rattle.line.proofs.line.Line.height.Statement.{statement}
+use Rattle.line.proofs.line.Line.height.Tie as tie
 
 small : (T : ℕ) (s : Species) (cm tenths : ℕ) {answer : Count} → count answer ≡ tariffOf s cm tenths → answer ≡ Count.Is T → T ≤ mostTariffs
 small T s cm tenths asked is = le-trans (single-tariff-range (s .c1) (s .c2) (s .c3) (s .c4) cm tenths T (sym asked ∙ ap count is) .most) (lit≤ tt)
 
-ruleset line-checks = (stop-when, past-when, stop-unless, past-unless, follows-count, stops-count, le-leb, lt-leb, over, not-over, small)
+ruleset line-checks = (stop-when, past-when, stop-unless, past-unless, follows-count, stops-count, le-leb, lt-leb, above-limit, within-limit, small)
 
 pub height-spec : {M : Type 1} → statement M
 unfolding height

@@ -13,10 +13,10 @@ use Rattle.biomass.specs.Tree.{averageTree, treeOf, rowOf}
 use Rattle.biomass.specs.declared.units.BiomassRange.{BiomassRange}
 use Rattle.biomass.specs.declared.tree.AverageTree.{AverageTree}
 use Rattle.codec.specs.declared.command.Species.{Species}
-use Rattle.survey.specs.declared.row.Row.{Row}
-use Rattle.survey.specs.declared.line.Tally.{Tally}
-use Rattle.survey.specs.declared.line.Heights.{Heights}
-use Rattle.survey.specs.declared.line.Line.{Line}
+use Rattle.line.specs.declared.row.Row.{Row}
+use Rattle.line.specs.declared.line.Tally.{Tally}
+use Rattle.line.specs.declared.line.Heights.{Heights}
+use Rattle.line.specs.declared.line.Line.{Line}
 
 -- ---- what is noted of a line
 

@@ -1,12 +1,12 @@
--- `survey::line::Line::worked` meets its contract: it asks `biomass` for the row of the definition's tree, and T, d and N fit the row's types.
+-- `line::line::Line::worked` meets its contract: it asks `biomass` for the row of the definition's tree, and T, d and N fit the row's types.
 use native.Mathlib.Omega.{arith}
 use mathlib.Core.Path.{_∙_, refl, sym, ap}
 use borrow.Author.Needs.{needs}
 use Rattle.biomass.specs.Report.{refused, biomass}
 use Rattle.biomass.specs.Law.Report.{stops, follows}
-use Rattle.survey.specs.Apply.{worked}
-use Rattle.survey.proofs.line.Line.worked.Statement.{statement}
-use Rattle.survey.proofs.line.Line.worked.Tie as tie
+use Rattle.line.specs.AnyLine.{worked}
+use Rattle.line.proofs.line.Line.worked.Statement.{statement}
+use Rattle.line.proofs.line.Line.worked.Tie as tie
 
 pub worked-spec : {M : Type 1} → statement M
 unfolding worked

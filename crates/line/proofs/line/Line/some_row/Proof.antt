@@ -1,4 +1,4 @@
--- `survey::line::Line::some_row` meets its contract: each test and each figure of the code is the definition's, in the same order. A mean that is given is at most the
+-- `line::line::Line::some_row` meets its contract: each test and each figure of the code is the definition's, in the same order. A mean that is given is at most the
 -- greatest d, so that the table of factors has a place for it.
 use Prim.Native.Nat.{ℕ, _/_, _<_}
 use native.Mathlib.Omega.{arith}
@@ -9,13 +9,12 @@ use Rattle.biomass.specs.Report.{count}
 use Rattle.powers.specs.Diameter.{unitsToCm, leastD, greatestD}
 use Rattle.biomass.specs.Tariff.{lineTariff}
 use Rattle.biomass.specs.Mean.{mean}
-use Rattle.biomass.specs.Law.Report.{Inside, stop-unless, past-unless, follows-count, stops-count}
+use Rattle.biomass.specs.Law.Report.{Inside, stop-unless, past-unless, follows-count, stops-count, stop-when, past-when}
 use Rattle.biomass.specs.Law.Mean.{mean-gives}
 use Rattle.biomass.specs.Law.Tariff.{line-tariff-range}
 use Rattle.biomass.specs.declared.answer.Count.{Count}
-use Rattle.survey.proofs.Check.{stop-when, past-when}
-use Rattle.survey.proofs.line.Line.some_row.Statement.{statement}
-use Rattle.survey.proofs.line.Line.some_row.Tie as tie
+use Rattle.line.proofs.line.Line.some_row.Statement.{statement}
+use Rattle.line.proofs.line.Line.some_row.Tie as tie
 
 -- the mean and the tariff that are given are in their ranges
 d-range : (n squares d : ℕ) {answer : Count} → count answer ≡ mean n squares → answer ≡ Count.Is d → Inside leastD d greatestD

@@ -23,8 +23,8 @@ ghost use Rattle.biomass.specs.Report.{count};
 ghost use Rattle.powers.specs.Diameter.{leastD, greatestD};
 ghost use Rattle.biomass.specs.Limits.{mostEstimated};
 ghost use Rattle.biomass.specs.Law.Report.{Inside};
-ghost use Rattle.survey.specs.Line.{begun, tariffOf, emptyRow};
-ghost use Rattle.survey.specs.Apply.{noted, rowed, measured, height, worked, someRow, lineRow};
+ghost use Rattle.line.specs.Line.{begun, tariffOf, emptyRow};
+ghost use Rattle.line.specs.AnyLine.{noted, rowed, measured, height, worked, someRow, lineRow};
 
 // What the squares of a line add up to at most: no class is above 100 cm.
 const MOST_SQUARES: u64 = 10_000 * MOST_MEASURED;
@@ -147,7 +147,7 @@ impl Line {
     }
 
     // The row of a line without measured trees.
-    pub(crate) fn empty_row(self) -> Row
+    pub fn empty_row(self) -> Row
         ensures { λ r. ⌜ r ≡ emptyRow self ⌝ }
     {
         let none = BiomassRange {
