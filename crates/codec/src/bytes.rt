@@ -3,7 +3,7 @@ ghost use mathlib.Core.Path.{_≡_};
 ghost use Rattle.codec.specs.Bytes.{byte, numberAt, bytes, store, afterStore, signed, unsigned};
 
 // The byte at a place; 0 past the end.
-fn byte_at(s: &[u8], at: usize) -> u8
+pub fn byte(s: &[u8], at: usize) -> u8
     ensures { λ r. ⌜ r ≡ byte (now (s .entry)) at ⌝ }
 {
     if s.len() <= at {
@@ -19,8 +19,8 @@ pub fn two(s: &[u8], at: usize) -> u16
     if s.len() <= at {
         return 0;
     }
-    let high = byte_at(s, at) as u16;
-    let low = byte_at(s, at + 1) as u16;
+    let high = byte(s, at) as u16;
+    let low = byte(s, at + 1) as u16;
     high * 256 + low
 }
 

@@ -22,7 +22,8 @@ use Rattle.codec.specs.Command.{Fits, FitsFour, SpeciesFits}
 use Rattle.codec.specs.Reading.{read}
 use Rattle.codec.specs.Writing.{fitsAt, write}
 use Rattle.survey.specs.AsWritten.{isIn}
-use Rattle.survey.specs.Sheet.{rowLength, rowFrom, findRow}
+use Rattle.survey.specs.Sheet.{findRow}
+use Rattle.line.specs.Row.{rowLength, rowFrom}
 use Rattle.survey.specs.Total.{Answer, refusedAt, totalled, total}
 use Rattle.codec.specs.Law.Bytes.{unsigned-fits, signed-unsigned, signed-fits}
 use Rattle.survey.specs.Law.Reach.{read-declines}

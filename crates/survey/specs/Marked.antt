@@ -6,7 +6,8 @@ use mathlib.Core.List.{List, [], _∷_, _++_}
 use lib.ListN.{length, take}
 use borrow.Fn.Claims.{AllOf, all-join}
 use Rattle.biomass.specs.Marked.{marked, marked-hold}
-use Rattle.survey.specs.Sheet.{rowLength, sheetLength, rowBytes}
+use Rattle.survey.specs.Sheet.{sheetLength}
+use Rattle.line.specs.Row.{rowLength, rowBytes}
 use Rattle.survey.specs.Total.{sheetAfter}
 use Rattle.survey.specs.Listing.{listing, row1}
 use Rattle.survey.specs.Law.Listing.{listing-sheet}

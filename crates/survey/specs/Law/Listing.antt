@@ -24,7 +24,8 @@ use Rattle.survey.specs.Closings.{closings, closingsOf}
 use Rattle.survey.specs.Apply.{applyMeasured, applyHeight, applyClose}
 use Rattle.line.specs.AnyLine.{measured, height, worked, lineRow}
 use Rattle.survey.specs.Playing.{ended, stepBy, playUpToBy, playBy, play}
-use Rattle.survey.specs.Sheet.{rowLength, sheetLength, rowBytes, sheetBytes}
+use Rattle.survey.specs.Sheet.{sheetLength, sheetBytes}
+use Rattle.line.specs.Row.{rowLength, rowBytes}
 use Rattle.survey.specs.Total.{totalled, sumOf, totalOf, total, sheetAfter}
 use Rattle.survey.specs.Demand3.{linesOf}
 use Rattle.survey.specs.Listing.{listed, listing, listingTotals, row1, row2}

@@ -17,7 +17,8 @@ use Rattle.survey.specs.Playing.{ended, play}
 use Rattle.survey.specs.Sheet.{sheetLength, rowsOf, findRow}
 use Rattle.survey.specs.Total.{sheetAfter}
 use Rattle.codec.specs.Law.RoundTrip.{read-is-encoded}
-use Rattle.survey.specs.Law.Sheet.{RowFits, row-reads-back, rows-number, rows-at-most}
+use Rattle.survey.specs.Law.Sheet.{row-reads-back, rows-number, rows-at-most}
+use Rattle.line.specs.Law.Row.{RowFits}
 use Rattle.survey.specs.Law.Closing.{closes-to}
 use Rattle.survey.specs.Law.Effect.{Effect, a-species, a-factor, the-line, a-row, effect}
 use Rattle.survey.specs.Law.Valid.{always, fresh-valid, set-cases}

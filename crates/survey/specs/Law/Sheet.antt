@@ -4,27 +4,25 @@ use Prim.Native.Nat.{ℕ, zero, suc, _+_, _*_, _≤_, _<_, zero-le}
 use native.Mathlib.Nat.{le-of-suc-le-suc, not-suc-le-zero}
 use native.Mathlib.Numerals.{add-one}
 use native.Mathlib.Omega.{arith}
-use mathlib.Core.Path.{_≡_, _∙_, refl, ap}
+use mathlib.Core.Path.{_≡_, refl, ap}
 use mathlib.Core.Logic.{inr}
 use mathlib.Core.List.{List, [], _∷_, _++_, append-assoc, append-nil}
 use lib.ListN.{length, take, drop, getD, length-append}
 use lib.Seq.{length-take-le, take-suc}
 use borrow.Author.Tests.{le-leb}
 use Rattle.biomass.specs.Report.{gives}
-use Rattle.codec.specs.Bytes.{byte, numberAt, bytes, storedAt}
+use Rattle.codec.specs.Bytes.{byte, storedAt}
 use Rattle.survey.specs.Survey.{mostLines}
 use Rattle.survey.specs.Valid.{Valid}
-use Rattle.survey.specs.Sheet.{rowLength, sheetLength, rowBytes, sheetBytes, rowsOf, rowFrom, findRow}
-use Rattle.codec.specs.Law.Bytes.{Stands, before, stands-at, stands-first, stands-second, stands-taken, byte-alone, number-of-bytes}
+use Rattle.survey.specs.Sheet.{sheetLength, sheetBytes, rowsOf, findRow}
+use Rattle.line.specs.Row.{rowLength, rowBytes}
+use Rattle.line.specs.Law.Row.{length-row, RowFits, row-of-bytes}
+use Rattle.codec.specs.Law.Bytes.{Stands, stands-at, stands-first, stands-second, stands-taken}
 use Rattle.codec.specs.Law.Storing.{length-stored, stands-stored, stored-keeps, stored-then}
 use Rattle.line.specs.declared.row.Row.{Row}
 use Rattle.survey.specs.declared.survey.Survey.{Survey}
 
 -- ---- how long rows are
-
-pub length-row : (r : Row) → length (rowBytes r) ≡ rowLength
-unfolding rowBytes
-length-row r = refl
 
 -- "800 bytes" are room for 32 rows
 pub room-for-all : mostLines * rowLength ≡ sheetLength
@@ -52,39 +50,6 @@ row-apart (r ∷ rows) zero z inside h = stands-at (stands-first (rowBytes r) (s
 row-apart (r ∷ rows) (suc i) z inside h =
     let apart = row-apart rows i z (le-of-suc-le-suc inside) (stands-second (rowBytes r) (sheetBytes rows) h) in
     stands-at apart (omega (arith, length-row r))
-
--- ---- a row in its bytes
-
--- the row's figures fit their bytes
-pub record RowFits (r : Row) : Type 0 where
-  pub stratum : r .stratum < 256
-  pub species : r .species < 256
-  pub tariff : r .tariff < 256
-  pub d : r .d < 65536
-  pub trees : r .trees < 4294967296
-  pub low : r .biomass .low .0 < 18446744073709551616
-  pub high : r .biomass .high .0 < 18446744073709551616
-
--- such a row is read back from where its bytes stand
-row-of-bytes : (r : Row) (s : List ℕ) (at : ℕ) → RowFits r → Stands (rowBytes r) s at → rowFrom s at ≡ r
-unfolding rowBytes rowFrom
-row-of-bytes r s at f (before e₁ (before e₂ (before e₃ h))) =
-    let b₂ = bytes 2 (r .d) in
-    let b₄ = bytes 4 (r .trees) in
-    let b₈ = bytes 8 (r .biomass .low .0) in
-    let b₈' = bytes 8 (r .biomass .high .0) in
-    let three = stands-first (b₂ ++ b₄ ++ b₈) b₈' h in
-    let two = stands-first (b₂ ++ b₄) b₈ three in
-    let stratum : byte s at ≡ r .stratum = e₁ ∙ byte-alone (r .stratum) (f .stratum) in
-    let species : byte s (at + 1) ≡ r .species = e₂ ∙ byte-alone (r .species) (f .species) in
-    let tariff : byte s (at + 2) ≡ r .tariff = ap (byte s) (omega arith) ∙ e₃ ∙ byte-alone (r .tariff) (f .tariff) in
-    let d : numberAt 2 s (at + 3) ≡ r .d = number-of-bytes 2 (r .d) (f .d) (stands-at (stands-first b₂ b₄ two) (omega arith)) in
-    let trees : numberAt 4 s (at + 5) ≡ r .trees = number-of-bytes 4 (r .trees) (f .trees) (stands-at (stands-second b₂ b₄ two) (omega arith)) in
-    let low : numberAt 8 s (at + 9) ≡ r .biomass .low .0 =
-    number-of-bytes 8 (r .biomass .low .0) (f .low) (stands-at (stands-second (b₂ ++ b₄) b₈ three) (omega arith)) in
-    let high : numberAt 8 s (at + 17) ≡ r .biomass .high .0 =
-    number-of-bytes 8 (r .biomass .high .0) (f .high) (stands-at (stands-second (b₂ ++ b₄ ++ b₈) b₈' h) (omega arith)) in
-    rw (stratum, species, tariff, d, trees, low, high)
 
 module _ (sheet : List ℕ) (rows : List Row) where
   -- the rows before the i-th, and then the i-th after them

@@ -22,7 +22,8 @@ use Rattle.survey.specs.Survey.{fresh, declare, opened, openLine, finish
 use Rattle.survey.specs.Apply.{applyClose}
 use Rattle.line.specs.AnyLine.{lineRow}
 use Rattle.survey.specs.Playing.{stepBy, playUpToBy, play}
-use Rattle.survey.specs.Sheet.{rowLength, sheetLength, rowBytes, sheetBytes}
+use Rattle.survey.specs.Sheet.{sheetLength, sheetBytes}
+use Rattle.line.specs.Row.{rowLength, rowBytes}
 use Rattle.survey.specs.Total.{Answer, refusedAt, totalled, total, sheetAfter}
 use Rattle.survey.specs.Demand3.{Fractions, NoneAbove, more, none, added, exactSum, exactTotal, Demand3, Demanded, linesOf}
 use Rattle.survey.specs.Listing.{species3, line2, listing, listingTotals, row1, row2}

@@ -1,10 +1,15 @@
 -- `survey::sheet::store_rows` meets its contract. The loop's invariant: the first i rows are stored, and nothing else has changed.
-use Prim.Native.Nat.{_-_, _≤_, _<_}
+use Prim.Native.Nat.{ℕ, _+_, _-_, _*_, _≤_, _<_}
 use native.Mathlib.Omega.{arith}
 use mathlib.Core.Path.{_≡_, _∙_, refl, ap}
+use mathlib.Core.List.{List}
 use lib.ListN.{length, take}
 use lib.Seq.{length-take-le}
-use Rattle.codec.specs.Bytes.{storedAt}
+use Rattle.codec.specs.Bytes.{storedAt, store}
+use Rattle.codec.specs.Law.Storing.{store-fits}
+use Rattle.line.specs.Row.{rowLength, rowBytes}
+use Rattle.line.specs.Law.Row.{length-row}
+use Rattle.line.specs.declared.row.Row.{Row}
 use Rattle.survey.specs.Survey.{mostLines}
 use Rattle.survey.specs.Sheet.{sheetBytes}
 use Rattle.survey.specs.Law.Sheet.{laid-one-more, laid-length}
@@ -29,8 +34,9 @@ as-long c =
     let rows : c .loop .i ≤ length (a .t2) = omega arith in
     ap length (c .loop .inv .1) ∙ laid-length (a .sheet .now) (take (c .loop .i) (a .t2)) (omega (arith, length-take-le (c .loop .i) (a .t2) rows))
 
-store-row-requires : tie.Need-store-row-requires Inv-loop μ-loop
-store-row-requires c κs = omega (arith, as-long (c .before .before .before))
+-- a row for which there is room is stored
+row-stored : {c : List ℕ} (b : List ℕ) (at : ℕ) (r : Row) → at + rowLength ≤ length b → c ≡ store b at (rowBytes r) → c ≡ storedAt b at (rowBytes r)
+row-stored b at r room is = is ∙ store-fits b at (rowBytes r) (omega (arith, length-row r))
 
 loop-again : tie.Need-loop-again Inv-loop μ-loop
 loop-again c =
@@ -38,7 +44,8 @@ loop-again c =
     let a = l .before .before .args in
     let i = l .loop .i in
     let inside : i < length (a .t2) = omega arith in
-    (omega arith, c .before .before .store-row .ensures ∙ rw (l .loop .inv .1) (laid-one-more (a .sheet .now) (a .t2) i _ inside))
+    let now = row-stored (l .loop .sheet) (rowLength * i) _ (omega (arith, as-long l)) (c .before .before .store-row .ensures) in
+    (omega arith, now ∙ rw (l .loop .inv .1) (laid-one-more (a .sheet .now) (a .t2) i _ inside))
 
 same-length : tie.Need-same-length Inv-loop μ-loop
 same-length c = as-long (c .before)
@@ -58,7 +65,7 @@ store-rows-spec =
     (λ c. omega arith)
     (λ c. omega arith)
     (λ c. omega arith)
-    store-row-requires
+    (λ c κs. tt)
     (λ c. omega arith)
     (λ c. omega arith)
     loop-again

@@ -1,14 +1,14 @@
--- `survey::sheet::store_row` meets its contract: the figures of the row, each stored right after the one before it, in its own width.
+-- `line::row::store_figures` meets its contract: the figures of the row, each stored right after the one before it, in its own width.
 use native.Mathlib.Omega.{arith}
 use mathlib.Core.Path.{_∙_, ap}
 use mathlib.Core.List.{_++_}
 use lib.ListN.{length}
 use Rattle.codec.specs.Bytes.{bytes}
 use Rattle.codec.specs.Law.Storing.{Stored, fits-stored, next-stored, length-stored}
-use Rattle.survey.specs.Sheet.{rowBytes}
-use Rattle.survey.specs.Law.Sheet.{length-row}
-use Rattle.survey.proofs.sheet.store_row.Statement.{statement}
-use Rattle.survey.proofs.sheet.store_row.Tie as tie
+use Rattle.line.specs.Row.{rowBytes}
+use Rattle.line.specs.Law.Row.{length-row}
+use Rattle.line.proofs.row.store_figures.Statement.{statement}
+use Rattle.line.proofs.row.store_figures.Tie as tie
 
 abbrev start : tie.After-store4 → tie.Start
 start c = c .before .before .before .before .before .before .before .before .before .before .before .before .before .before .before .before .before .before .before
@@ -48,8 +48,8 @@ same-length c =
     let s = c .before .before in
     ap length (all s .0) ∙ length-stored _ _ _ (omega (arith, begin s .pre, length-row (begin s .args .row)))
 
-pub store-row-spec : {M : Type 1} → statement M
-store-row-spec =
+pub store-figures-spec : {M : Type 1} → statement M
+store-figures-spec =
     tie.close
     (tie.spec
     (λ c. omega arith)
