@@ -67,7 +67,7 @@ pub fn by_chance(seed: u64) -> Vec<u8> {
 
 /// Books at the limits of document 01 and just over them, and other ends.
 pub fn edges(seeds: Range<u64>) -> Vec<Vec<u8>> {
-    let mut books = vec![Vec::new(), vec![END], listing(), of_length(streams::LONGEST - 5)];
+    let mut books = vec![Vec::new(), vec![END], listing(), of_length(LONGEST - 5)];
     for seed in seeds.clone() {
         let mut random = Random::new(seed);
         let n = random.between(1, 65_535);

@@ -15,8 +15,8 @@ const OPERAND: u64 = 6;
 
 const BEFORE: u64 = 0xa5a5_a5a5_a5a5_a5a5;
 
-/// How many bytes stand before a buffer and after it.
-const MARGIN: usize = 25;
+/// How many bytes stand before a buffer or a sheet and after it.
+pub const MARGIN: usize = 25;
 
 /// The number of the refusal, then rows, trees, low, high and the place of the refusal.
 pub type Totalled = (u8, [u64; 5]);

@@ -3,7 +3,11 @@ use crate::refusal::Refusal;
 
 /// A command of a book. Any operands that fit their bytes can be read and written: whether they are within their ranges
 /// shows when the book is totalled.
+///
+/// A later version may have more commands. So that one more breaks no program, a match outside this crate has an arm for
+/// others.
 #[derive(Clone, Copy, PartialEq, Eq, Debug)]
+#[non_exhaustive]
 pub enum Command {
     /// Declares the species of this id.
     Species(u8, Species),

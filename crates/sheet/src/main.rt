@@ -1,9 +1,10 @@
 // Reads a field book from standard input, totals it and prints the sheet, as document 01 says under "Reading out": a line
 // for each row, then one for the project. Input longer than 65,536 bytes prints `too long` and nothing else; a refused
 // book prints the number of the refusal and its place.
-use codec::refusal::Refusal;
-use libc::STDIN_FILENO;
-use libc::STDOUT_FILENO;
+use console::Output;
+use console::input_buffer;
+use console::read_input;
+use console::too_long;
 use line::row::Row;
 use survey::sheet::Found;
 use survey::sheet::SHEET_LENGTH;
@@ -12,105 +13,75 @@ use survey::total::Totalled;
 use survey::total::Totals;
 use survey::total::total;
 
-// Standard output, and whether all that was printed is out. Past a write that fails nothing more is written: what comes
-// out is always a beginning of the text, and no number is cut in its middle and gone on with.
-struct Output {
-    good: bool,
+// Trees to two places. Both places are digits of their own, so that 5 hundredths are 0.05.
+fn print_trees(output: Output, hundredths: u64) -> Output {
+    output
+        .number(hundredths / 100)
+        .named(b".", hundredths / 10 % 10)
+        .number(hundredths % 10)
 }
 
-impl Output {
-    fn text(self, bytes: &[u8]) -> Output {
-        if !self.good {
-            return self;
-        }
-        Output {
-            good: io::write_all(STDOUT_FILENO, bytes),
-        }
-    }
+// What a row's line and the project's line end with.
+fn print_estimate(output: Output, hundredths: u64, low: u64, high: u64) -> Output {
+    print_trees(output, hundredths)
+        .named(b" ", low)
+        .named(b" ", high)
+        .text(b"\n")
+}
 
-    fn number(self, n: u64) -> Output {
-        if !self.good {
-            return self;
-        }
-        Output {
-            good: io::print_decimal(STDOUT_FILENO, n),
-        }
-    }
+fn print_row(output: Output, row: Row) -> Output {
+    let biomass = row.biomass;
+    let line = output
+        .number(row.stratum as u64)
+        .named(b" ", row.species as u64)
+        .text(b" ");
+    print_estimate(line, row.trees as u64, biomass.low.0, biomass.high.0)
+}
 
-    // Trees to two places. Both places are digits of their own, so that 5 hundredths are 0.05.
-    fn trees(self, hundredths: u64) -> Output {
-        self.number(hundredths / 100)
-            .text(b".")
-            .number(hundredths / 10 % 10)
-            .number(hundredths % 10)
-    }
-
-    // What a row's line and the project's line end with.
-    fn trees_and_range(self, hundredths: u64, low: u64, high: u64) -> Output {
-        self.trees(hundredths)
-            .text(b" ")
-            .number(low)
-            .text(b" ")
-            .number(high)
-            .text(b"\n")
-    }
-
-    fn row(self, row: Row) -> Output {
-        let biomass = row.biomass;
-        self.number(row.stratum as u64)
-            .text(b" ")
-            .number(row.species as u64)
-            .text(b" ")
-            .trees_and_range(row.trees as u64, biomass.low.0, biomass.high.0)
-    }
-
-    // The i-th row of the sheet, counted from 0. Totalling laid it there, so none is passed over.
-    fn found(self, sheet: &[u8], i: usize) -> Output {
-        match find_row(sheet, i) {
-            Found::Is(row) => self.row(row),
-            Found::Refused(_) => self,
-        }
-    }
-
-    fn rows(self, sheet: &[u8], rows: usize) -> Output {
-        let mut output = self;
-        for i in 0..rows {
-            output = output.found(sheet, i);
-        }
-        output
-    }
-
-    fn project(self, totals: Totals) -> Output {
-        let carbon = totals.carbon;
-        self.text(b"project ")
-            .trees_and_range(totals.trees, carbon.low.0, carbon.high.0)
-    }
-
-    fn refusal(self, why: Refusal, at: usize) -> Output {
-        self.text(b"refused ")
-            .number(why.number() as u64)
-            .text(b" at ")
-            .number(at as u64)
-            .text(b"\n")
+// The i-th row of the sheet, counted from 0. Totalling stored it there, so none is passed over.
+fn print_found(output: Output, sheet: &[u8], i: usize) -> Output {
+    match find_row(sheet, i) {
+        Found::Is(row) => print_row(output, row),
+        Found::Refused(_) => output,
     }
 }
 
-fn read_out(output: Output, book: &[u8]) -> Output {
+fn print_rows(output: Output, sheet: &[u8], rows: usize) -> Output {
+    let mut printed = output;
+    for i in 0..rows {
+        printed = print_found(printed, sheet, i);
+    }
+    printed
+}
+
+fn print_project(output: Output, totals: Totals) -> Output {
+    let carbon = totals.carbon;
+    print_estimate(
+        output.text(b"project "),
+        totals.trees,
+        carbon.low.0,
+        carbon.high.0,
+    )
+}
+
+fn print_sheet(book: &[u8]) {
     let mut sheet = [0u8; SHEET_LENGTH];
     match total(book, &mut sheet) {
-        Totalled::Is(totals) => output.rows(&sheet, totals.rows).project(totals),
-        Totalled::Refused { why, at } => output.refusal(why, at),
+        Totalled::Is(totals) => {
+            let rows = print_rows(Output::new(), &sheet, totals.rows);
+            print_project(rows, totals);
+        }
+        Totalled::Refused { why, at } => {
+            Output::new().refusal(why.number(), at);
+        }
     }
 }
 
 fn main() {
-    let output = Output { good: true };
-    // A byte more than a book may have, so that longer input shows.
-    let mut input = [0u8; 65_537];
-    let n = io::read_full(STDIN_FILENO, &mut input);
-    if 65_536 < n {
-        output.text(b"too long\n");
+    let mut buffer = input_buffer();
+    let n = read_input(&mut buffer);
+    if too_long(n) {
         return;
     }
-    read_out(output, &input[..n]);
+    print_sheet(&buffer[..n]);
 }
