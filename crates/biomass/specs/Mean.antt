@@ -15,9 +15,9 @@ abbrev pub squareScale : ℕ
 squareScale = 400
 
 -- "Mean d: the whole d with (2d−1)²·n ≤ 400·S < (2d+1)²·n."
--- `whole` says that 2d − 1 is not cut off at 0 here
+-- `not-cut-off` says that 2d − 1 is not cut off at 0 here
 pub record IsMean (n S d : ℕ) : Type 0 where
-  pub whole : 1 ≤ 2 * d
+  pub not-cut-off : 1 ≤ 2 * d
   pub not-above : square (2 * d - 1) * n ≤ squareScale * S
   pub below : squareScale * S < square (2 * d + 1) * n
 

@@ -4,11 +4,11 @@ use Prim.Native.Nat.{ℕ}
 use mathlib.Core.Bool.{Bool, true, false}
 use Rattle.biomass.specs.declared.units.BiomassRange.{BiomassRange}
 use Rattle.biomass.specs.declared.units.CarbonRange.{CarbonRange}
-use Rattle.biomass.specs.declared.answer.Refusal.{Refusal}
-use Rattle.biomass.specs.declared.answer.Refusal.the-variants.{Operand, Tariff}
-use Rattle.biomass.specs.declared.answer.Count.{Count}
-use Rattle.biomass.specs.declared.answer.Biomass.{Biomass}
-use Rattle.biomass.specs.declared.answer.Carbon.{Carbon}
+use Rattle.biomass.specs.declared.report.Refusal.{Refusal}
+use Rattle.biomass.specs.declared.report.Refusal.the-variants.{Operand, Tariff}
+use Rattle.biomass.specs.declared.report.Count.{Count}
+use Rattle.biomass.specs.declared.report.Biomass.{Biomass}
+use Rattle.biomass.specs.declared.report.Carbon.{Carbon}
 
 pub data Report (A : Type 0) : Type 0 where
   refused : ℕ → Report A

@@ -45,5 +45,5 @@ abbrev pub rowOf : ℕ → BiomassRange → BiomassRange
 rowOf N m = between (rowLow N m) (rowHigh N m)
 
 -- "1,000,000 estimated trees a line"
-unfoldable pub row : ℕ → AverageTree → Report BiomassRange
-row N t = unless (inside 0 N mostEstimated) 6 (tree t then λ m. gives (rowOf N m))
+unfoldable pub rowBiomass : ℕ → AverageTree → Report BiomassRange
+rowBiomass N t = unless (inside 0 N mostEstimated) 6 (tree t then λ m. gives (rowOf N m))

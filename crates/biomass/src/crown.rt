@@ -1,8 +1,8 @@
 // Step 5: the crown's biomass.
-use super::answer::Biomass;
-use super::answer::Refusal;
-use super::part::on_curve;
-use super::part::on_line;
+use super::ends::on_curve;
+use super::ends::on_line;
+use super::report::Biomass;
+use super::report::Refusal;
 use super::units::BiomassRange;
 use super::whole::within;
 use powers::crown::crown_power;

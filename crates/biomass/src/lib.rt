@@ -1,12 +1,12 @@
 // The figures of one line of a field book: document 01, steps 1 to 7 and the project's two figures.
 // This crate knows nothing of books, lines or commands. Each routine makes its own checks, answers any
 // arguments at all, and promises an equation over a definition of specs/.
-pub mod answer;
 pub mod crown;
+mod ends;
 pub mod limits;
 pub mod mean;
-mod part;
 pub mod project;
+pub mod report;
 pub mod root;
 pub mod stem;
 pub mod tariff;

@@ -1,7 +1,7 @@
 // Step 2: the mean diameter.
-use super::answer::Count;
-use super::answer::Refusal;
 use super::limits::MOST_MEASURED;
+use super::report::Count;
+use super::report::Refusal;
 use super::whole::within;
 use powers::diameter::GREATEST_D;
 use powers::diameter::LEAST_D;

@@ -1,6 +1,6 @@
 // The project's two figures, in grams of carbon dioxide.
-use super::answer::Carbon;
-use super::answer::Refusal;
+use super::report::Carbon;
+use super::report::Refusal;
 use super::units::BiomassRange;
 use super::units::CarbonRange;
 use super::units::Grams;

@@ -1,6 +1,6 @@
 // Step 4: the stem's biomass.
-use super::answer::Biomass;
-use super::answer::Refusal;
+use super::report::Biomass;
+use super::report::Refusal;
 use super::units::BiomassRange;
 use super::units::Milligrams;
 use super::whole::within;
@@ -32,16 +32,16 @@ fn volume(tariff: u64, d: u64) -> VolumeEnds
     let slope = 315_049_301 * (1_000_000_000 * tariff - 138_763_302) / 10_000_000_000;
     let base = 3_605_410_000_000_000 * tariff;
     if 118_288_000 <= area {
-        let over = area - 118_288_000;
+        let excess = area - 118_288_000;
         return VolumeEnds {
-            low: base + slope * over,
-            high: base + (slope + 1) * (over + 1),
+            low: base + slope * excess,
+            high: base + (slope + 1) * (excess + 1),
         };
     }
-    let under = 118_288_000 - area;
+    let deficit = 118_288_000 - area;
     VolumeEnds {
-        low: base - (slope + 1) * under,
-        high: base - slope * (under - 1),
+        low: base - (slope + 1) * deficit,
+        high: base - slope * (deficit - 1),
     }
 }
 

@@ -1,7 +1,7 @@
 // Step 1: the tariff of one height tree, and of a line.
-use super::answer::Count;
-use super::answer::Refusal;
 use super::limits::MOST_HEIGHTS;
+use super::report::Count;
+use super::report::Refusal;
 use super::whole::within;
 ghost use mathlib.Core.Path.{_≡_};
 ghost use Rattle.biomass.specs.Whole.{_div_};

@@ -1,8 +1,8 @@
 // Step 7: one tree, and one row.
-use super::answer::Biomass;
-use super::answer::Refusal;
 use super::crown::crown;
 use super::limits::MOST_ESTIMATED;
+use super::report::Biomass;
+use super::report::Refusal;
 use super::root::root;
 use super::stem::stem;
 use super::units::BiomassRange;
@@ -10,7 +10,7 @@ use super::units::Milligrams;
 use super::whole::within;
 ghost use mathlib.Core.Path.{_≡_};
 ghost use Rattle.biomass.specs.Report.{biomass};
-ghost use Rattle.biomass.specs.Tree.{tree, row};
+ghost use Rattle.biomass.specs.Tree.{tree, rowBiomass};
 
 // The tree of a line's mean diameter: all that steps 4 to 6 are worked from.
 pub struct AverageTree {
@@ -51,8 +51,8 @@ pub fn tree(t: AverageTree) -> Biomass
 }
 
 // The biomass of a row: so many hundredths of a tree, each the average one.
-pub fn row(trees: u64, t: AverageTree) -> Biomass
-    ensures { λ r. ⌜ biomass r ≡ row trees t ⌝ }
+pub fn row_biomass(trees: u64, t: AverageTree) -> Biomass
+    ensures { λ r. ⌜ biomass r ≡ rowBiomass trees t ⌝ }
 {
     if !within(0, trees, MOST_ESTIMATED) {
         return Biomass::Refused(Refusal::Operand);

@@ -1,8 +1,8 @@
 // Step 3: the number of trees that a line's measured trees stand for.
-use super::answer::Count;
-use super::answer::Refusal;
 use super::limits::GREATEST_AREA;
 use super::limits::MOST_MEASURED;
+use super::report::Count;
+use super::report::Refusal;
 use super::whole::within;
 ghost use mathlib.Core.Path.{_≡_};
 ghost use Rattle.biomass.specs.Report.{count};

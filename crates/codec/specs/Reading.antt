@@ -18,13 +18,13 @@ reading (Reading.Is c next) = gives (c, next)
 reading (Reading.Refused why) = refused (number why)
 
 -- "3 operands cut short": a command whose operands take so many bytes from a place on
-abbrev pub whole : List ℕ → ℕ → ℕ → Command → Report (Command × ℕ)
-whole s from width c = unless (leb (from + width) (length s)) 3 (gives (c, from + width))
+abbrev pub withOperands : List ℕ → ℕ → ℕ → Command → Report (Command × ℕ)
+withOperands s from width c = unless (leb (from + width) (length s)) 3 (gives (c, from + width))
 
 -- the operands of each command, from the place after its byte on
 unfoldable pub speciesFrom : List ℕ → ℕ → Report (Command × ℕ)
 speciesFrom s i =
-    whole s i 20
+    withOperands s i 20
     (Species (byte s i) (record {
       crown = byte s (i + 1);
       root = byte s (i + 2);
@@ -36,16 +36,16 @@ speciesFrom s i =
     }))
 
 unfoldable pub factorFrom : List ℕ → ℕ → Report (Command × ℕ)
-factorFrom s i = whole s i 2 (Factor (byte s i) (byte s (i + 1)))
+factorFrom s i = withOperands s i 2 (Factor (byte s i) (byte s (i + 1)))
 
 unfoldable pub openFrom : List ℕ → ℕ → Report (Command × ℕ)
-openFrom s i = whole s i 10 (Open (byte s i) (byte s (i + 1)) (numberAt 4 s (i + 2)) (numberAt 4 s (i + 6)))
+openFrom s i = withOperands s i 10 (Open (byte s i) (byte s (i + 1)) (numberAt 4 s (i + 2)) (numberAt 4 s (i + 6)))
 
 unfoldable pub measuredFrom : List ℕ → ℕ → Report (Command × ℕ)
-measuredFrom s i = whole s i 3 (Measured (byte s i) (numberAt 2 s (i + 1)))
+measuredFrom s i = withOperands s i 3 (Measured (byte s i) (numberAt 2 s (i + 1)))
 
 unfoldable pub heightFrom : List ℕ → ℕ → Report (Command × ℕ)
-heightFrom s i = whole s i 3 (Height (byte s i) (numberAt 2 s (i + 1)))
+heightFrom s i = withOperands s i 3 (Height (byte s i) (numberAt 2 s (i + 1)))
 
 -- by the command's byte: "2 unknown byte"
 unfoldable pub commandFrom : ℕ → List ℕ → ℕ → Report (Command × ℕ)

@@ -65,11 +65,11 @@ impl Refusal {
 }
 
 // What a figure declines, as a refusal of the survey: the number is the same.
-pub fn of_figure(why: biomass::answer::Refusal) -> Refusal
+pub fn of_figure(why: biomass::report::Refusal) -> Refusal
     ensures { λ r. ⌜ number r ≡ refusalNumber why ⌝ }
 {
     match why {
-        biomass::answer::Refusal::Operand => Refusal::Operand,
-        biomass::answer::Refusal::Tariff => Refusal::Tariff,
+        biomass::report::Refusal::Operand => Refusal::Operand,
+        biomass::report::Refusal::Tariff => Refusal::Tariff,
     }
 }

@@ -111,7 +111,7 @@ fn store_command(buffer: &mut [u8], at: usize, command: Command)
 // Writes a command from a place on. Where it does not fit, nothing is written.
 pub fn write(buffer: &mut [u8], at: usize, command: Command) -> Written
     ensures answer { λ r. ⌜ writing r ≡ write (now (buffer .entry)) at command ⌝ }
-    ensures laid { λ _. ⌜ now (buffer .exit) ≡ bufferAfter (now (buffer .entry)) at command ⌝ }
+    ensures stored { λ _. ⌜ now (buffer .exit) ≡ bufferAfter (now (buffer .entry)) at command ⌝ }
     ensures back { λ r. ⌜ ReadsBack (now (buffer .exit)) at command (writing r) ⌝ }
 {
     let n = length(command);

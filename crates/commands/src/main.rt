@@ -101,20 +101,20 @@ fn print_commands(output: Output, book: &[u8], commands: usize) -> Output {
     let mut printed = output;
     let mut at = 0;
     for _ in 0..commands {
-        let onward = command_at(book, at);
-        let reading = onward.reading;
+        let advance = command_at(book, at);
+        let reading = advance.reading;
         printed = print_line(printed, at, reading);
-        at = onward.at;
+        at = advance.at;
     }
     printed
 }
 
 fn print_book(book: &[u8]) {
-    let through = read_through(book, 0);
-    let at = through.at;
-    let why = through.why;
-    let output = print_commands(Output::new(), book, through.commands)
-        .named(b"commands ", through.commands as u64)
+    let extent = read_through(book, 0);
+    let at = extent.at;
+    let why = extent.why;
+    let output = print_commands(Output::new(), book, extent.commands)
+        .named(b"commands ", extent.commands as u64)
         .named(b" bytes ", at as u64)
         .text(b"\n");
     // After the last byte there is no command to refuse.

@@ -33,7 +33,7 @@ use Rattle.codec.specs.declared.command.Command.{Command}
 use Rattle.codec.specs.declared.command.Command.the-variants.{Species, Factor, Open, Measured, Height, Close, End}
 use Rattle.survey.specs.declared.total.Totals.{Totals}
 use Rattle.fieldbook.specs.Numbers.{extended, numbers, oneByte, twoBytes, fourBytes, speciesOf, cut, same, commandOf}
-use Rattle.fieldbook.specs.Layout.{refusal, bookRefusal, totals, told, command, writeNumbers, bufferAfter}
+use Rattle.fieldbook.specs.Layout.{refusal, bookRefusal, totals, answered, command, writeNumbers, bufferAfter}
 
 -- ---- 0 is told of no refusal
 
@@ -78,10 +78,10 @@ zero-is-totalled book sheet = by-answer (total book sheet) refl
     by-answer (refusedAt n at) e none = absurd (false≢true (ap (λ (m : ℕ). isIn m ofTotalling) (sym none) ∙ refusals-of-totalling book sheet n at e))
 
 -- so nothing is lost: what the numbers say is what totalling answers
-pub told-again : (book sheet : List ℕ) → told (bookRefusal (total book sheet)) (totals (total book sheet)) ≡ total book sheet
-told-again book sheet = by-answer (total book sheet) refl
+pub answered-again : (book sheet : List ℕ) → answered (bookRefusal (total book sheet)) (totals (total book sheet)) ≡ total book sheet
+answered-again book sheet = by-answer (total book sheet) refl
   where
-    by-answer : (a : Answer) → total book sheet ≡ a → told (bookRefusal a) (totals a) ≡ a
+    by-answer : (a : Answer) → total book sheet ≡ a → answered (bookRefusal a) (totals a) ≡ a
     by-answer (totalled t) e = refl
     by-answer (refusedAt zero at) e = absurd (false≢true (refusals-of-totalling book sheet 0 at e))
     by-answer (refusedAt (suc n) at) e = refl

@@ -42,22 +42,22 @@ totals (refusedAt n at) = 0 ∷ 0 ∷ 0 ∷ 0 ∷ at ∷ []
 totals (totalled t) = t .rows ∷ t .trees ∷ t .carbon .low .0 ∷ t .carbon .high .0 ∷ 0 ∷ []
 
 -- and what these numbers say: where 0 came back the totals, and else the refusal and its place (Law: told-again: just what totalling answers)
-abbrev pub told : ℕ → List ℕ → Answer
-told zero ns =
+abbrev pub answered : ℕ → List ℕ → Answer
+answered zero ns =
     totalled (record {
       rows = getD ns 0 0;
       trees = getD ns 1 0;
       carbon = record { low = record { 0 = getD ns 2 0 }; high = record { 0 = getD ns 3 0 } };
     })
-told (suc n) ns = refusedAt (suc n) (getD ns 4 0)
+answered (suc n) ns = refusedAt (suc n) (getD ns 4 0)
 
 -- a row of the sheet: stratum, species, T, d, N, low and high
 abbrev pub rowNumbers : Row → List ℕ
 rowNumbers r = r .stratum ∷ r .species ∷ r .tariff ∷ r .d ∷ r .trees ∷ r .biomass .low .0 ∷ r .biomass .high .0 ∷ []
 
-abbrev pub row : Report Row → List ℕ
-row (refused n) = 0 ∷ 0 ∷ 0 ∷ 0 ∷ 0 ∷ 0 ∷ 0 ∷ []
-row (gives r) = rowNumbers r
+abbrev pub foundRow : Report Row → List ℕ
+foundRow (refused n) = 0 ∷ 0 ∷ 0 ∷ 0 ∷ 0 ∷ 0 ∷ 0 ∷ []
+foundRow (gives r) = rowNumbers r
 
 -- a command that was read
 abbrev pub command : Report (Command × ℕ) → List ℕ

@@ -11,7 +11,7 @@ use Rattle.codec.specs.Bytes.{signed, unsigned}
 use Rattle.codec.specs.declared.command.Species as Declared
 use Rattle.codec.specs.declared.command.Command.{Command}
 use Rattle.codec.specs.declared.command.Command.the-variants.{Species, Factor, Open, Measured, Height, Close, End}
-use Rattle.fieldbook.specs.declared.commands.Made.{Made}
+use Rattle.fieldbook.specs.declared.commands.Converted.{Converted}
 
 -- from 32 bits to 64: the upper half of the one is the uppermost part of the other (Law: natural-wide, negative-wide: so it is two's complement)
 abbrev pub extended : ℕ → ℕ
@@ -31,9 +31,9 @@ numbers End = 7 ∷ 0 ∷ 0 ∷ 0 ∷ 0 ∷ 0 ∷ 0 ∷ 0 ∷ 0 ∷ []
 -- ---- the command that numbers stand for
 
 -- what the code answers
-abbrev pub made : Made → Report Command
-made (Made.Is c) = gives c
-made (Made.Refused why) = refused (number why)
+abbrev pub converted : Converted → Report Command
+converted (Converted.Is c) = gives c
+converted (Converted.Refused why) = refused (number why)
 
 -- what an operand of so many bytes is cut to
 abbrev pub oneByte : List ℕ → ℕ → ℕ

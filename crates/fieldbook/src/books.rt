@@ -8,7 +8,7 @@ ghost use mathlib.Core.Path.{_≡_};
 ghost use Rattle.survey.specs.Sheet.{findRow};
 ghost use Rattle.survey.specs.Total.{total, sheetAfter};
 ghost use Rattle.survey.specs.Demand3.{Demanded};
-ghost use Rattle.fieldbook.specs.Layout.{refusal, bookRefusal, totals, told, row, rowNumbers};
+ghost use Rattle.fieldbook.specs.Layout.{refusal, bookRefusal, totals, answered, foundRow, rowNumbers};
 
 // Totals a book into a sheet of 800 bytes or more. The answer: rows, trees in hundredths, low and high in grams of carbon
 // dioxide, and the place of a refusal. Where the book is refused, the sheet is as it was.
@@ -16,8 +16,8 @@ ghost use Rattle.fieldbook.specs.Layout.{refusal, bookRefusal, totals, t
 pub extern "C" fn fieldbook_total(book: &[u8], sheet: &mut [u8], answer: &mut [u64; 5]) -> u8
     ensures refusal { λ r. ⌜ r ≡ bookRefusal (total (now (book .entry)) (now (sheet .entry))) ⌝ }
     ensures answer { λ _. ⌜ now (answer .exit) ≡ totals (total (now (book .entry)) (now (sheet .entry))) ⌝ }
-    ensures laid { λ _. ⌜ now (sheet .exit) ≡ sheetAfter (now (book .entry)) (now (sheet .entry)) ⌝ }
-    ensures demand3 { λ r. ⌜ Demanded (now (book .entry)) (told r (now (answer .exit))) ⌝ }
+    ensures stored { λ _. ⌜ now (sheet .exit) ≡ sheetAfter (now (book .entry)) (now (sheet .entry)) ⌝ }
+    ensures demand3 { λ r. ⌜ Demanded (now (book .entry)) (answered r (now (answer .exit))) ⌝ }
 {
     match total(book, sheet) {
         Totalled::Is(t) => {
@@ -51,7 +51,7 @@ fn row_numbers(row: Row) -> [u64; 7]
 #[no_mangle]
 pub extern "C" fn fieldbook_sheet_row(sheet: &[u8], i: usize, answer: &mut [u64; 7]) -> u8
     ensures refusal { λ r. ⌜ r ≡ refusal (findRow (now (sheet .entry)) i) ⌝ }
-    ensures answer { λ _. ⌜ now (answer .exit) ≡ row (findRow (now (sheet .entry)) i) ⌝ }
+    ensures answer { λ _. ⌜ now (answer .exit) ≡ foundRow (findRow (now (sheet .entry)) i) ⌝ }
 {
     match find_row(sheet, i) {
         Found::Is(found) => {

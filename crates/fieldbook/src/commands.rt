@@ -13,11 +13,11 @@ ghost use mathlib.Core.Path.{_≡_};
 ghost use Prim.Native.Nat.{_%_};
 ghost use Rattle.codec.specs.Bytes.{signed, unsigned};
 ghost use Rattle.codec.specs.Reading.{read, placeAfter};
-ghost use Rattle.fieldbook.specs.Numbers.{extended, numbers, speciesOf, cut, made, same, commandOf};
+ghost use Rattle.fieldbook.specs.Numbers.{extended, numbers, speciesOf, cut, converted, same, commandOf};
 ghost use Rattle.fieldbook.specs.Layout.{refusal, command, writeNumbers, nextPlace, bufferAfter};
 
 // The command that numbers stand for, or why there is none.
-enum Made {
+enum Converted {
     Is(Command),
     Refused(Refusal),
 }
@@ -101,8 +101,8 @@ fn species_of(n: [u64; 9]) -> Species
 }
 
 // The command of that byte, with its operands cut to their widths.
-fn cut(n: [u64; 9]) -> Made
-    ensures { λ r. ⌜ made r ≡ cut n ⌝ }
+fn cut(n: [u64; 9]) -> Converted
+    ensures { λ r. ⌜ converted r ≡ cut n ⌝ }
 {
     let first = (n[1] % 256) as u8;
     let second = (n[2] % 256) as u8;
@@ -110,28 +110,28 @@ fn cut(n: [u64; 9]) -> Made
     let p = (n[3] % 4_294_967_296) as u32;
     let q = (n[4] % 4_294_967_296) as u32;
     match n[0] {
-        1 => Made::Is(Command::Species(first, species_of(n))),
-        2 => Made::Is(Command::Factor {
+        1 => Converted::Is(Command::Species(first, species_of(n))),
+        2 => Converted::Is(Command::Factor {
             cm: first,
             factor: second,
         }),
-        3 => Made::Is(Command::Open {
+        3 => Converted::Is(Command::Open {
             stratum: first,
             species: second,
             p,
             q,
         }),
-        4 => Made::Is(Command::Measured {
+        4 => Converted::Is(Command::Measured {
             class: first,
             count: pair,
         }),
-        5 => Made::Is(Command::Height {
+        5 => Converted::Is(Command::Height {
             cm: first,
             tenths: pair,
         }),
-        6 => Made::Is(Command::Close),
-        7 => Made::Is(Command::End),
-        _ => Made::Refused(Refusal::UnknownByte),
+        6 => Converted::Is(Command::Close),
+        7 => Converted::Is(Command::End),
+        _ => Converted::Refused(Refusal::UnknownByte),
     }
 }
 
@@ -150,16 +150,16 @@ fn same(a: [u64; 9], b: [u64; 9]) -> bool
 }
 
 // The command whose numbers these are.
-fn command_of(n: [u64; 9]) -> Made
-    ensures { λ r. ⌜ made r ≡ commandOf n ⌝ }
+fn command_of(n: [u64; 9]) -> Converted
+    ensures { λ r. ⌜ converted r ≡ commandOf n ⌝ }
 {
     match cut(n) {
-        Made::Is(command) => if same(numbers_of(command), n) {
-            Made::Is(command)
+        Converted::Is(command) => if same(numbers_of(command), n) {
+            Converted::Is(command)
         } else {
-            Made::Refused(Refusal::Operand)
+            Converted::Refused(Refusal::Operand)
         },
-        Made::Refused(why) => Made::Refused(why),
+        Converted::Refused(why) => Converted::Refused(why),
     }
 }
 
@@ -199,11 +199,11 @@ pub extern "C" fn fieldbook_write(
     next: &mut usize,
 ) -> u8
     ensures refusal { λ r. ⌜ r ≡ refusal (writeNumbers (now (buffer .entry)) at (now (command .entry))) ⌝ }
-    ensures laid { λ _. ⌜ now (buffer .exit) ≡ bufferAfter (now (buffer .entry)) at (commandOf (now (command .entry))) ⌝ }
+    ensures stored { λ _. ⌜ now (buffer .exit) ≡ bufferAfter (now (buffer .entry)) at (commandOf (now (command .entry))) ⌝ }
     ensures next { λ _. ⌜ now (next .exit) ≡ nextPlace at (writeNumbers (now (buffer .entry)) at (now (command .entry))) ⌝ }
 {
     match command_of(*command) {
-        Made::Is(made) => match write(buffer, at, made) {
+        Converted::Is(converted) => match write(buffer, at, converted) {
             Written::Next(after) => {
                 *next = after;
                 0
@@ -213,7 +213,7 @@ pub extern "C" fn fieldbook_write(
                 why.number()
             }
         },
-        Made::Refused(why) => {
+        Converted::Refused(why) => {
             *next = at;
             why.number()
         }

@@ -1,16 +1,16 @@
 // The figures of the crate `biomass`.
-use biomass::answer::Biomass;
-use biomass::answer::Carbon;
-use biomass::answer::Count;
 use biomass::crown::crown;
 use biomass::mean::mean;
 use biomass::project::project;
+use biomass::report::Biomass;
+use biomass::report::Carbon;
+use biomass::report::Count;
 use biomass::root::root;
 use biomass::stem::stem;
 use biomass::tariff::line_tariff;
 use biomass::tariff::single_tariff;
 use biomass::tree::AverageTree;
-use biomass::tree::row;
+use biomass::tree::row_biomass;
 use biomass::tree::tree;
 use biomass::trees::trees;
 use biomass::units::BiomassRange;
@@ -24,7 +24,7 @@ ghost use Rattle.biomass.specs.Trees.{trees};
 ghost use Rattle.biomass.specs.Stem.{stem};
 ghost use Rattle.biomass.specs.Crown.{crown};
 ghost use Rattle.biomass.specs.Root.{root};
-ghost use Rattle.biomass.specs.Tree.{tree, row, averageTree};
+ghost use Rattle.biomass.specs.Tree.{tree, rowBiomass, averageTree};
 ghost use Rattle.biomass.specs.Project.{project};
 ghost use Rattle.fieldbook.specs.Layout.{refusal, figure, ends, carbonEnds};
 
@@ -44,7 +44,7 @@ fn lay_count(given: Count, answer: &mut u64) -> u8
     }
 }
 
-fn lay_biomass(given: Biomass, answer: &mut [u64; 2]) -> u8
+fn store_biomass(given: Biomass, answer: &mut [u64; 2]) -> u8
     ensures refusal { λ r. ⌜ r ≡ refusal (biomass given) ⌝ }
     ensures answer { λ _. ⌜ now (answer .exit) ≡ ends (biomass given) ⌝ }
 {
@@ -60,7 +60,7 @@ fn lay_biomass(given: Biomass, answer: &mut [u64; 2]) -> u8
     }
 }
 
-fn lay_carbon(given: Carbon, answer: &mut [u64; 2]) -> u8
+fn store_carbon(given: Carbon, answer: &mut [u64; 2]) -> u8
     ensures refusal { λ r. ⌜ r ≡ refusal (carbon given) ⌝ }
     ensures answer { λ _. ⌜ now (answer .exit) ≡ carbonEnds (carbon given) ⌝ }
 {
@@ -113,7 +113,7 @@ pub extern "C" fn fieldbook_stem(
     ensures refusal { λ r. ⌜ r ≡ refusal (stem tariff d factor gravity) ⌝ }
     ensures answer { λ _. ⌜ now (answer .exit) ≡ ends (stem tariff d factor gravity) ⌝ }
 {
-    lay_biomass(stem(tariff, d, factor, gravity), answer)
+    store_biomass(stem(tariff, d, factor, gravity), answer)
 }
 
 #[no_mangle]
@@ -121,7 +121,7 @@ pub extern "C" fn fieldbook_crown(group: u64, d: u64, answer: &mut [u64; 2]) -> 
     ensures refusal { λ r. ⌜ r ≡ refusal (crown group d) ⌝ }
     ensures answer { λ _. ⌜ now (answer .exit) ≡ ends (crown group d) ⌝ }
 {
-    lay_biomass(crown(group, d), answer)
+    store_biomass(crown(group, d), answer)
 }
 
 #[no_mangle]
@@ -129,7 +129,7 @@ pub extern "C" fn fieldbook_root(group: u64, d: u64, answer: &mut [u64; 2]) -> u
     ensures refusal { λ r. ⌜ r ≡ refusal (root group d) ⌝ }
     ensures answer { λ _. ⌜ now (answer .exit) ≡ ends (root group d) ⌝ }
 {
-    lay_biomass(root(group, d), answer)
+    store_biomass(root(group, d), answer)
 }
 
 // The steps between them.
@@ -183,7 +183,7 @@ pub extern "C" fn fieldbook_tree(
     ensures refusal { λ r. ⌜ r ≡ refusal (tree (averageTree tariff d factor gravity crown root)) ⌝ }
     ensures answer { λ _. ⌜ now (answer .exit) ≡ ends (tree (averageTree tariff d factor gravity crown root)) ⌝ }
 {
-    lay_biomass(
+    store_biomass(
         tree(average_tree(tariff, d, factor, gravity, crown, root)),
         answer,
     )
@@ -200,11 +200,11 @@ pub extern "C" fn fieldbook_row(
     root: u64,
     answer: &mut [u64; 2],
 ) -> u8
-    ensures refusal { λ r. ⌜ r ≡ refusal (row trees (averageTree tariff d factor gravity crown root)) ⌝ }
-    ensures answer { λ _. ⌜ now (answer .exit) ≡ ends (row trees (averageTree tariff d factor gravity crown root)) ⌝ }
+    ensures refusal { λ r. ⌜ r ≡ refusal (rowBiomass trees (averageTree tariff d factor gravity crown root)) ⌝ }
+    ensures answer { λ _. ⌜ now (answer .exit) ≡ ends (rowBiomass trees (averageTree tariff d factor gravity crown root)) ⌝ }
 {
-    lay_biomass(
-        row(trees, average_tree(tariff, d, factor, gravity, crown, root)),
+    store_biomass(
+        row_biomass(trees, average_tree(tariff, d, factor, gravity, crown, root)),
         answer,
     )
 }
@@ -218,5 +218,5 @@ pub extern "C" fn fieldbook_project(low: u64, high: u64, trees: u64, answer: &mu
         low: Milligrams(low),
         high: Milligrams(high),
     };
-    lay_carbon(project(sums, trees), answer)
+    store_carbon(project(sums, trees), answer)
 }

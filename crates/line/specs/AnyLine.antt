@@ -10,22 +10,22 @@ use Rattle.biomass.specs.Limits.{mostMeasured, mostHeights, mostEstimated}
 use Rattle.biomass.specs.Tariff.{lineTariff}
 use Rattle.biomass.specs.Mean.{mean}
 use Rattle.biomass.specs.Trees.{trees}
-use Rattle.biomass.specs.Tree.{row}
+use Rattle.biomass.specs.Tree.{rowBiomass}
 use Rattle.codec.specs.Refusal.{number}
 use Rattle.line.specs.Line.{withTrees, withHeight, tariffOf, factorFor, treeWith, rowWith, emptyRow}
 use Rattle.line.specs.declared.row.Row.{Row}
 use Rattle.line.specs.declared.line.Line.{Line}
-use Rattle.line.specs.declared.line.Noted.{Noted}
-use Rattle.line.specs.declared.line.Closed.{Closed}
+use Rattle.line.specs.declared.line.Updated.{Updated}
+use Rattle.line.specs.declared.line.Estimated.{Estimated}
 
 -- what the code answers
-abbrev pub noted : Noted → Report Line
-noted (Noted.Is l) = gives l
-noted (Noted.Refused why) = refused (number why)
+abbrev pub updated : Updated → Report Line
+updated (Updated.Is l) = gives l
+updated (Updated.Refused why) = refused (number why)
 
-abbrev pub rowed : Closed → Report Row
-rowed (Closed.Is r) = gives r
-rowed (Closed.Refused why) = refused (number why)
+abbrev pub estimated : Estimated → Report Row
+estimated (Estimated.Is r) = gives r
+estimated (Estimated.Refused why) = refused (number why)
 
 -- what S and the tariffs added come to at most: of the most trees, each of 100 cm, and of the most height trees, each of tariff 50
 abbrev pub mostSquares : ℕ
@@ -35,8 +35,8 @@ abbrev pub mostTariffs : ℕ
 mostTariffs = 50 * mostHeights
 
 -- measured trees; the last check declines a line whose S would be above that
-unfoldable pub measured : ℕ → ℕ → Line → Report Line
-measured class count l =
+unfoldable pub addTrees : ℕ → ℕ → Line → Report Line
+addTrees class count l =
     unless (inside 7 class 100) 6
     (unless (leb 1 count) 6
     (unless (leb (l .tally .n + count) mostMeasured) 11
@@ -44,8 +44,8 @@ measured class count l =
     (gives (withTrees class count l)))))
 
 -- a height tree; the last check declines a line whose tariffs would come to more
-unfoldable pub height : ℕ → ℕ → Line → Report Line
-height cm tenths l =
+unfoldable pub addHeight : ℕ → ℕ → Line → Report Line
+addHeight cm tenths l =
     tariffOf (l .species) cm tenths then λ T.
     when (leb mostHeights (l .heights .number)) 11
     (unless (leb (l .heights .tariffs + T) mostTariffs) 6
@@ -53,7 +53,7 @@ height cm tenths l =
 
 -- the row by steps 4 to 7; what they decline (6), closing declines
 unfoldable pub worked : Line → ℕ → ℕ → ℕ → ℕ → Report Row
-worked l T d f N = row N (treeWith (l .species) T d f) then λ m. gives (rowWith l T d N m)
+worked l T d f N = rowBiomass N (treeWith (l .species) T d f) then λ m. gives (rowWith l T d N m)
 
 -- closing, where there are measured trees and height trees: d, N and T are worked by steps 2, 3 and 1, and what one of them declines (6), closing declines
 abbrev pub someRow : List ℕ → Line → Report Row

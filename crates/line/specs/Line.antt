@@ -34,8 +34,8 @@ lineWith l tally heights =
     }
 
 -- a line that is just opened
-abbrev pub begun : ℕ → ℕ → Species → ℕ → ℕ → Line
-begun stratum id s p q =
+abbrev pub newLine : ℕ → ℕ → Species → ℕ → ℕ → Line
+newLine stratum id s p q =
     record {
       stratum = stratum;
       id = id;

@@ -1,11 +1,11 @@
 // A line: what is noted of it while it is open, and the row that it leaves.
 use super::row::Row;
-use biomass::answer::Biomass;
-use biomass::answer::Count;
 use biomass::limits::MOST_ESTIMATED;
 use biomass::limits::MOST_HEIGHTS;
 use biomass::limits::MOST_MEASURED;
 use biomass::mean::mean;
+use biomass::report::Biomass;
+use biomass::report::Count;
 use biomass::tariff::line_tariff;
 use biomass::tariff::single_tariff;
 use biomass::tree::AverageTree;
@@ -23,8 +23,8 @@ ghost use Rattle.biomass.specs.Report.{count};
 ghost use Rattle.powers.specs.Diameter.{leastD, greatestD};
 ghost use Rattle.biomass.specs.Limits.{mostEstimated};
 ghost use Rattle.biomass.specs.Law.Report.{Inside};
-ghost use Rattle.line.specs.Line.{begun, tariffOf, emptyRow};
-ghost use Rattle.line.specs.AnyLine.{noted, rowed, measured, height, worked, someRow, lineRow};
+ghost use Rattle.line.specs.Line.{newLine, tariffOf, emptyRow};
+ghost use Rattle.line.specs.AnyLine.{updated, estimated, addTrees, addHeight, worked, someRow, lineRow};
 
 // What the squares of a line add up to at most: no class is above 100 cm.
 const MOST_SQUARES: u64 = 10_000 * MOST_MEASURED;
@@ -56,13 +56,13 @@ pub struct Line {
 }
 
 // The line with one command more, or why not.
-pub enum Noted {
+pub enum Updated {
     Is(Line),
     Refused(Refusal),
 }
 
 // The row of a line, or why it does not close.
-pub enum Closed {
+pub enum Estimated {
     Is(Row),
     Refused(Refusal),
 }
@@ -77,7 +77,7 @@ fn tariff_of(s: Species, cm: u8, tenths: u16) -> Count
 impl Line {
     // A line on which nothing is noted yet.
     pub fn new(stratum: u8, id: u8, species: Species, p: u32, q: u32) -> Self
-        ensures { λ r. ⌜ r ≡ begun stratum id species p q ⌝ }
+        ensures { λ r. ⌜ r ≡ newLine stratum id species p q ⌝ }
     {
         let tally = Tally { n: 0, squares: 0 };
         let heights = Heights {
@@ -96,54 +96,54 @@ impl Line {
     }
 
     // So many trees of a class more.
-    pub fn measured(self, class: u8, count: u16) -> Noted
-        ensures { λ r. ⌜ noted r ≡ measured class count self ⌝ }
+    pub fn add_trees(self, class: u8, count: u16) -> Updated
+        ensures { λ r. ⌜ updated r ≡ addTrees class count self ⌝ }
     {
         let cm = class as u64;
         let trees = count as u64;
         if !within(7, cm, 100) {
-            return Noted::Refused(Refusal::Operand);
+            return Updated::Refused(Refusal::Operand);
         }
         if trees < 1 {
-            return Noted::Refused(Refusal::Operand);
+            return Updated::Refused(Refusal::Operand);
         }
         if MOST_MEASURED - trees < self.tally.n {
-            return Noted::Refused(Refusal::Limit);
+            return Updated::Refused(Refusal::Limit);
         }
         let added = trees * (cm * cm);
         // No survey reaches a line of which this is true.
         if MOST_SQUARES - added < self.tally.squares {
-            return Noted::Refused(Refusal::Operand);
+            return Updated::Refused(Refusal::Operand);
         }
         let n = self.tally.n + trees;
         let squares = self.tally.squares + added;
         let tally = Tally { n, squares };
         let mut line = self;
         line.tally = tally;
-        Noted::Is(line)
+        Updated::Is(line)
     }
 
     // One height tree more.
-    pub fn height(self, cm: u8, tenths: u16) -> Noted
-        ensures { λ r. ⌜ noted r ≡ height cm tenths self ⌝ }
+    pub fn add_height(self, cm: u8, tenths: u16) -> Updated
+        ensures { λ r. ⌜ updated r ≡ addHeight cm tenths self ⌝ }
     {
         let tariff = match tariff_of(self.species, cm, tenths) {
             Count::Is(t) => t,
-            Count::Refused(why) => return Noted::Refused(of_figure(why)),
+            Count::Refused(why) => return Updated::Refused(of_figure(why)),
         };
         if MOST_HEIGHTS <= self.heights.number {
-            return Noted::Refused(Refusal::Limit);
+            return Updated::Refused(Refusal::Limit);
         }
         // No survey reaches a line of which this is true.
         if MOST_TARIFFS - tariff < self.heights.tariffs {
-            return Noted::Refused(Refusal::Operand);
+            return Updated::Refused(Refusal::Operand);
         }
         let number = self.heights.number + 1;
         let tariffs = self.heights.tariffs + tariff;
         let heights = Heights { number, tariffs };
         let mut line = self;
         line.heights = heights;
-        Noted::Is(line)
+        Updated::Is(line)
     }
 
     // The row of a line without measured trees.
@@ -165,9 +165,9 @@ impl Line {
     }
 
     // The row of a line whose tariff, mean diameter, factor and number of trees are known.
-    fn worked(self, tariff: u64, d: u64, factor: u8, number: u64) -> Closed
+    fn worked(self, tariff: u64, d: u64, factor: u8, number: u64) -> Estimated
         requires { ⌜ Inside 1 tariff 50 × Inside leastD d greatestD × (number ≤ mostEstimated) ⌝ }
-        ensures { λ r. ⌜ rowed r ≡ worked self tariff d factor number ⌝ }
+        ensures { λ r. ⌜ estimated r ≡ worked self tariff d factor number ⌝ }
     {
         let s = self.species;
         let average = AverageTree {
@@ -178,11 +178,11 @@ impl Line {
             crown: s.crown as u64,
             root: s.root as u64,
         };
-        let range = match biomass::tree::row(number, average) {
+        let range = match biomass::tree::row_biomass(number, average) {
             Biomass::Is(m) => m,
-            Biomass::Refused(why) => return Closed::Refused(of_figure(why)),
+            Biomass::Refused(why) => return Estimated::Refused(of_figure(why)),
         };
-        Closed::Is(Row {
+        Estimated::Is(Row {
             stratum: self.stratum,
             species: self.id,
             tariff: tariff as u8,
@@ -193,41 +193,41 @@ impl Line {
     }
 
     // The row of a line with measured trees and height trees, worked with the factor at its mean diameter.
-    fn some_row(self, factors: [u8; 101]) -> Closed
-        ensures { λ r. ⌜ rowed r ≡ someRow factors self ⌝ }
+    fn some_row(self, factors: [u8; 101]) -> Estimated
+        ensures { λ r. ⌜ estimated r ≡ someRow factors self ⌝ }
     {
         let d = match mean(self.tally.n, self.tally.squares) {
             Count::Is(d) => d,
-            Count::Refused(why) => return Closed::Refused(of_figure(why)),
+            Count::Refused(why) => return Estimated::Refused(of_figure(why)),
         };
         let cm = (d / UNITS_TO_CM) as usize;
         let factor = factors[cm];
         if factor == 0 {
-            return Closed::Refused(Refusal::NoFactor);
+            return Estimated::Refused(Refusal::NoFactor);
         }
         let number = match trees(self.tally.n, self.p as u64, self.q as u64) {
             Count::Is(n) => n,
-            Count::Refused(why) => return Closed::Refused(of_figure(why)),
+            Count::Refused(why) => return Estimated::Refused(of_figure(why)),
         };
         if MOST_ESTIMATED < number {
-            return Closed::Refused(Refusal::TooManyTrees);
+            return Estimated::Refused(Refusal::TooManyTrees);
         }
         let tariff = match line_tariff(self.heights.tariffs, self.heights.number) {
             Count::Is(t) => t,
-            Count::Refused(why) => return Closed::Refused(of_figure(why)),
+            Count::Refused(why) => return Estimated::Refused(of_figure(why)),
         };
         self.worked(tariff, d, factor, number)
     }
 
     // The line closed: its row.
-    pub fn row(self, factors: [u8; 101]) -> Closed
-        ensures { λ r. ⌜ rowed r ≡ lineRow factors self ⌝ }
+    pub fn row(self, factors: [u8; 101]) -> Estimated
+        ensures { λ r. ⌜ estimated r ≡ lineRow factors self ⌝ }
     {
         if self.tally.n == 0 {
-            return Closed::Is(self.empty_row());
+            return Estimated::Is(self.empty_row());
         }
         if self.heights.number == 0 {
-            return Closed::Refused(Refusal::NoHeightTree);
+            return Estimated::Refused(Refusal::NoHeightTree);
         }
         self.some_row(factors)
     }

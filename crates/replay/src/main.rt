@@ -96,10 +96,10 @@ fn play_applying(survey: Survey, command: Command) -> Survey {
 fn print_refusal(book: &[u8], why: Refusal, at: usize, from: usize) {
     number(why.number() as u64);
     number(at as u64);
-    let through = read_through(book, from);
-    let stopped = through.why;
-    number(through.commands as u64);
-    number(through.at as u64);
+    let extent = read_through(book, from);
+    let stopped = extent.why;
+    number(extent.commands as u64);
+    number(extent.at as u64);
     last(stopped.number() as u64);
 }
 
@@ -108,9 +108,9 @@ fn turn(book: &[u8], play: Play) -> Play {
     let at = play.at;
     let survey = play.survey;
     number(at as u64);
-    let onward = command_at(book, at);
-    let next = onward.at;
-    let reading = onward.reading;
+    let advance = command_at(book, at);
+    let next = advance.at;
+    let reading = advance.reading;
     match reading {
         Reading::Is(command, _) => {
             number(next as u64);

@@ -10,14 +10,14 @@ use Rattle.biomass.specs.Law.Report.{stop-when, past-when, refuses, goes-on, he
 use Rattle.biomass.specs.Report.{Report, refused, _then_, when}
 use Rattle.codec.specs.Refusal.{number}
 use Rattle.survey.specs.Survey.{mostLines}
-use Rattle.line.specs.AnyLine.{noted, rowed}
+use Rattle.line.specs.AnyLine.{updated, estimated}
 use Rattle.survey.specs.Change.{HasPlace}
 use Rattle.codec.specs.declared.command.Species.{Species}
 use Rattle.codec.specs.declared.refusal.Refusal.{Refusal}
 use Rattle.line.specs.declared.row.Row.{Row}
 use Rattle.line.specs.declared.line.Line.{Line}
-use Rattle.line.specs.declared.line.Noted.{Noted}
-use Rattle.line.specs.declared.line.Closed.{Closed}
+use Rattle.line.specs.declared.line.Updated.{Updated}
+use Rattle.line.specs.declared.line.Estimated.{Estimated}
 use Rattle.survey.specs.declared.survey.Survey.{Survey}
 use Rattle.survey.specs.declared.change.Change.{Change}
 
@@ -29,30 +29,30 @@ pub above : (x hi : ℕ) → hi < x → inside 0 x hi ≡ false
 above x hi h = simp (le-leb 0 x zero-le, lt-leb x hi h)
 
 -- a test whose answer the code has from a routine, whose promise says which test of the definition it is
-pub stop-told : {A : Type 0} {answer test : Bool} {n : ℕ} (next : Report A) → answer ≡ test → answer ≡ true → refused n ≡ when test n next
-stop-told next told e = stop-when next (sym told ∙ e)
+pub stop-answered : {A : Type 0} {answer test : Bool} {n : ℕ} (next : Report A) → answer ≡ test → answer ≡ true → refused n ≡ when test n next
+stop-answered next told e = stop-when next (sym told ∙ e)
 
-pub past-told : {A : Type 0} {answer test : Bool} {x : Report A} (n : ℕ) (next : Report A) → answer ≡ test → answer ≡ false → x ≡ next → x ≡ when test n next
-past-told n next told e = past-when next n (sym told ∙ e)
+pub past-answered : {A : Type 0} {answer test : Bool} {x : Report A} (n : ℕ) (next : Report A) → answer ≡ test → answer ≡ false → x ≡ next → x ≡ when test n next
+past-answered n next told e = past-when next n (sym told ∙ e)
 
 -- what follows a report of which a routine has answered a figure, or a refusal
-module _ {A : Type 0} {after : Report Line} {answer : Noted} (f : Line → Report A) (promise : noted answer ≡ after) where
-  pub follows-noted : {l : Line} {x : Report A} → answer ≡ Noted.Is l → x ≡ f l → x ≡ (after then f)
-  follows-noted is = follows after f (sym promise ∙ ap noted is)
+module _ {A : Type 0} {after : Report Line} {answer : Updated} (f : Line → Report A) (promise : updated answer ≡ after) where
+  pub follows-updated : {l : Line} {x : Report A} → answer ≡ Updated.Is l → x ≡ f l → x ≡ (after then f)
+  follows-updated is = follows after f (sym promise ∙ ap updated is)
 
-  pub stops-noted : {why : Refusal} → answer ≡ Noted.Refused why → refused (number why) ≡ (after then f)
-  stops-noted is = stops after f (sym promise ∙ ap noted is)
+  pub stops-updated : {why : Refusal} → answer ≡ Updated.Refused why → refused (number why) ≡ (after then f)
+  stops-updated is = stops after f (sym promise ∙ ap updated is)
 
-module _ {A : Type 0} {row : Report Row} {answer : Closed} (f : Row → Report A) (promise : rowed answer ≡ row) where
-  pub follows-row : {r : Row} {x : Report A} → answer ≡ Closed.Is r → x ≡ f r → x ≡ (row then f)
-  follows-row is = follows row f (sym promise ∙ ap rowed is)
+module _ {A : Type 0} {row : Report Row} {answer : Estimated} (f : Row → Report A) (promise : estimated answer ≡ row) where
+  pub follows-estimated : {r : Row} {x : Report A} → answer ≡ Estimated.Is r → x ≡ f r → x ≡ (row then f)
+  follows-estimated is = follows row f (sym promise ∙ ap estimated is)
 
-  pub stops-row : {why : Refusal} → answer ≡ Closed.Refused why → refused (number why) ≡ (row then f)
-  stops-row is = stops row f (sym promise ∙ ap rowed is)
+  pub stops-estimated : {why : Refusal} → answer ≡ Estimated.Refused why → refused (number why) ≡ (row then f)
+  stops-estimated is = stops row f (sym promise ∙ ap estimated is)
 
 -- With those of `biomass`, the rules for `search` that close the answers of a chain of checks, wherever in the code a check stands
 pub ruleset survey-checks =
-    (stop-when, past-when, stop-told, past-told, refuses, goes-on, follows-noted, stops-noted, follows-row, stops-row, eq-eqb, ne-eqb, le-leb, lt-leb, lt-ltb, le-ltb)
+    (stop-when, past-when, stop-answered, past-answered, refuses, goes-on, follows-updated, stops-updated, follows-estimated, stops-estimated, eq-eqb, ne-eqb, le-leb, lt-leb, lt-ltb, le-ltb)
 
 -- What a change is known to be has its place in the survey's tables
 module _ {k : Change} (s : Survey) (place : HasPlace k s) where
@@ -73,10 +73,10 @@ pub holds : {test x : Bool} (other : Bool) → test ≡ true → x ≡ other →
 holds other e r = r ∙ ap (λ (b : Bool). cond b other false) (sym e)
 
 -- by what a routine told of the first
-pub fails-told : {answer test : Bool} (other : Bool) → answer ≡ test → not answer ≡ true → false ≡ cond test other false
-fails-told other told e = fails other (sym told ∙ not-true _ e)
+pub fails-answered : {answer test : Bool} (other : Bool) → answer ≡ test → not answer ≡ true → false ≡ cond test other false
+fails-answered other told e = fails other (sym told ∙ not-true _ e)
 
-pub holds-told : {answer test x : Bool} (other : Bool) → answer ≡ test → not answer ≡ false → x ≡ other → x ≡ cond test other false
-holds-told other told e = holds other (held told e)
+pub holds-answered : {answer test x : Bool} (other : Bool) → answer ≡ test → not answer ≡ false → x ≡ other → x ≡ cond test other false
+holds-answered other told e = holds other (held told e)
 
-pub ruleset parts = (fails, holds, fails-told, holds-told, up-to, above, arith)
+pub ruleset parts = (fails, holds, fails-answered, holds-answered, up-to, above, arith)

@@ -6,9 +6,8 @@ use mathlib.Core.Bool.{Bool}
 use mathlib.Core.List.{List, [], _∷_}
 use lib.Dec.{leb}
 use Rattle.biomass.specs.Report.{Report, gives, unless, _then_, when}
-use Rattle.biomass.specs.Tree.{row}
-use Rattle.line.specs.AnyLine.{measured, height, lineRow}
-use Rattle.survey.specs.Survey.{leaves, mostLines, withLine, withRow, declare, giveFactor, openLine, finish}
+use Rattle.line.specs.AnyLine.{addTrees, addHeight, lineRow}
+use Rattle.survey.specs.Survey.{leaves, mostLines, withLine, withRow, declare, giveFactor, openLine, end}
 use Rattle.codec.specs.declared.command.Command.{Command}
 use Rattle.line.specs.declared.row.Row.{Row}
 use Rattle.line.specs.declared.line.Line.{Line}
@@ -27,10 +26,10 @@ onLine after s =
     gives (withLine s l))
 
 unfoldable pub applyMeasured : ℕ → ℕ → Survey → Report Survey
-applyMeasured class count s = onLine (measured class count (s .line)) s
+applyMeasured class count s = onLine (addTrees class count (s .line)) s
 
 unfoldable pub applyHeight : ℕ → ℕ → Survey → Report Survey
-applyHeight cm tenths s = onLine (height cm tenths (s .line)) s
+applyHeight cm tenths s = onLine (addHeight cm tenths (s .line)) s
 
 -- closing, with the row that the line leaves; the last check declines a survey with a line open and 32 closed
 abbrev pub keeping : {A : Type 0} → Bool → ℕ → Report Row → (Row → Report A) → Report A
@@ -54,7 +53,7 @@ apply (Command.Open stratum species p q) s = openLine stratum species p q s
 apply (Command.Measured class count) s = applyMeasured class count s
 apply (Command.Height cm tenths) s = applyHeight cm tenths s
 apply Command.Close s = applyClose s
-apply Command.End s = finish s
+apply Command.End s = end s
 
 -- the survey after a list of commands: a refused one leaves it as it was
 unfoldable pub reached : List Command → Survey → Survey

@@ -4,7 +4,7 @@ use mathlib.Core.Bool.{Bool, true, false, cond}
 use mathlib.Core.List.{List, [], _∷_}
 use lib.Dec.{eqb}
 use Rattle.biomass.specs.Report.{Report}
-use Rattle.survey.specs.Survey.{declare, giveFactor, openLine, measure, giveHeight, close, finish}
+use Rattle.survey.specs.Survey.{declare, giveFactor, openLine, measure, giveHeight, close, end}
 use Rattle.codec.specs.declared.command.Command.{Command}
 use Rattle.survey.specs.declared.survey.Survey.{Survey}
 
@@ -15,7 +15,7 @@ asWritten (Command.Open stratum species p q) s = openLine stratum species p q s
 asWritten (Command.Measured class count) s = measure class count s
 asWritten (Command.Height cm tenths) s = giveHeight cm tenths s
 asWritten Command.Close s = close s
-asWritten Command.End s = finish s
+asWritten Command.End s = end s
 
 -- The refusals that document 01 names for each command, in its order. "5 the book has ended, first of all."
 abbrev pub numbersOf : Command → List ℕ

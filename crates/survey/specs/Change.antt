@@ -6,10 +6,10 @@ use mathlib.Core.List.{List}
 use lib.Dec.{ltb}
 use Rattle.biomass.specs.Report.{Report, refused, gives, when}
 use Rattle.codec.specs.Refusal.{number}
-use Rattle.line.specs.Line.{begun, factorAt}
+use Rattle.line.specs.Line.{newLine, factorAt}
 use Rattle.survey.specs.Survey.{mostLines, withSpecies, withFactor, withOpened, withRow, withEnd, declaredAs, declaring, giving, opening, ending}
 use Rattle.survey.specs.Apply.{onOpen, keeping}
-use Rattle.line.specs.AnyLine.{measured, height, lineRow}
+use Rattle.line.specs.AnyLine.{addTrees, addHeight, lineRow}
 use Rattle.codec.specs.declared.command.Species.{Species}
 use Rattle.codec.specs.declared.command.Command.{Command}
 use Rattle.line.specs.declared.line.Line.{Line}
@@ -37,13 +37,13 @@ HasPlace Change.End s = Unit
 HasPlace (Change.Refused why) s = Unit
 
 -- what the code answers
-abbrev pub told : Change → Report Change
-told (Change.Species id species) = gives (Change.Species id species)
-told (Change.Factor cm factor) = gives (Change.Factor cm factor)
-told (Change.Line l) = gives (Change.Line l)
-told (Change.Row r) = gives (Change.Row r)
-told Change.End = gives Change.End
-told (Change.Refused why) = refused (number why)
+abbrev pub decision : Change → Report Change
+decision (Change.Species id species) = gives (Change.Species id species)
+decision (Change.Factor cm factor) = gives (Change.Factor cm factor)
+decision (Change.Line l) = gives (Change.Line l)
+decision (Change.Row r) = gives (Change.Row r)
+decision Change.End = gives Change.End
+decision (Change.Refused why) = refused (number why)
 
 -- the stratum and the species that a command names, 0 where it names none; and whether it names both, and so a line
 abbrev pub named : Command → Named
@@ -64,10 +64,10 @@ seenOf there before s = record { there = there; before = before; active = s .act
 abbrev pub opens : ℕ → ℕ → ℕ → ℕ → Seen → Report Change
 opens stratum id p q v =
     opening p q (v .active) (declaredAs id (v .there)) (v .before) (v .closed)
-    (gives (Change.Line (begun stratum id (v .there) p q)))
+    (gives (Change.Line (newLine stratum id (v .there) p q)))
 
-abbrev pub notes : Bool → Report Line → Report Change
-notes active after = onOpen active after λ l. gives (Change.Line l)
+abbrev pub updates : Bool → Report Line → Report Change
+updates active after = onOpen active after λ l. gives (Change.Line l)
 
 abbrev pub closes : Seen → Line → List ℕ → Report Change
 closes v l factors = keeping (v .active) (v .closed) (lineRow factors l) λ r. gives (Change.Row r)
@@ -80,8 +80,8 @@ abbrev pub changeOf : Command → Seen → Line → List ℕ → Report Change
 changeOf (Command.Species id species) v l factors = declaring id species (declaredAs id (v .there)) (gives (Change.Species id species))
 changeOf (Command.Factor cm factor) v l factors = giving cm factor (ltb 0 (factorAt factors cm)) (gives (Change.Factor cm factor))
 changeOf (Command.Open stratum species p q) v l factors = opens stratum species p q v
-changeOf (Command.Measured class count) v l factors = notes (v .active) (measured class count l)
-changeOf (Command.Height cm tenths) v l factors = notes (v .active) (height cm tenths l)
+changeOf (Command.Measured class count) v l factors = updates (v .active) (addTrees class count l)
+changeOf (Command.Height cm tenths) v l factors = updates (v .active) (addHeight cm tenths l)
 changeOf Command.Close v l factors = closes v l factors
 changeOf Command.End v l factors = ends (v .active)
 
@@ -98,7 +98,7 @@ abbrev pub ownOf : Command → Line → Own
 ownOf (Command.Species id species) l = notOwn
 ownOf (Command.Factor cm factor) l = notOwn
 ownOf (Command.Open stratum species p q) l = notOwn
-ownOf (Command.Measured class count) l = own (measured class count l)
-ownOf (Command.Height cm tenths) l = own (height cm tenths l)
+ownOf (Command.Measured class count) l = own (addTrees class count l)
+ownOf (Command.Height cm tenths) l = own (addHeight cm tenths l)
 ownOf Command.Close l = notOwn
 ownOf Command.End l = notOwn

@@ -3,7 +3,7 @@
 use Prim.Native.Nat.{ℕ}
 use mathlib.Core.List.{List, [], _∷_, _++_}
 use Rattle.biomass.specs.Report.{Report, refused, gives}
-use Rattle.survey.specs.Book.{reach}
+use Rattle.survey.specs.Reader.{reach}
 use Rattle.survey.specs.Survey.{leaves, fresh}
 use Rattle.survey.specs.AsWritten.{asWritten}
 use Rattle.codec.specs.declared.command.Command.{Command}

@@ -21,9 +21,9 @@ unfoldable pub linesOf : List ℕ → List Estimate
 linesOf book = map estimate (closingsOf book)
 
 -- "the N of all lines added"
-unfoldable pub added : List Estimate → ℕ
-added [] = 0
-added (l ∷ ls) = l .N + added ls
+unfoldable pub treesAdded : List Estimate → ℕ
+treesAdded [] = 0
+treesAdded (l ∷ ls) = l .N + treesAdded ls
 
 -- what holds of each line, with its number, counted from 0
 pub data Each (P : ℕ → Estimate → Type 0) : ℕ → List Estimate → Type 0 where
@@ -62,7 +62,7 @@ pub record Demand3 (lines : List Estimate) (low high : ℕ) : Type 0 where
   pub equal-only-when : low ≡ high → Each (λ i l. l .N ≡ 0) 0 lines
   pub equal-when : Each (λ i l. l .N ≡ 0) 0 lines → low ≡ high
   -- "the high is at most the low + 3 + (the N of all lines added) div 1000"
-  pub gap : high ≤ low + 3 + added lines / 1000
+  pub gap : high ≤ low + 3 + treesAdded lines / 1000
   -- "'Not under the low': whatever fractions not below the powers are given, the total is at least the low."
   pub not-under-the-low : (g : Fractions) → NoneBelow g lines → whole (pos low) ≼ exactTotal g lines
   -- "'Not over the high': whatever fractions not above the powers are given, the total is at most the high."

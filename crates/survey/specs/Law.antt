@@ -1,6 +1,6 @@
 -- What is proved of the definitions, each law once, for this crate's proofs and for the layer above.
---     Book: read-all-encoded, encoded-read-all    the same of whole books: a list's encoding reads back as the list, and a book that reads through is its list's encoding
---     Book: encode-all-one                    so two lists with the same bytes are the same list
+--     Reader: read-all-encoded, encoded-read-all    the same of whole books: a list's encoding reads back as the list, and a book that reads through is its list's encoding
+--     Reader: encode-all-one                    so two lists with the same bytes are the same list
 --     Reach: stops-there, reach-encoded       a book reads as far as its first refusal, and the bytes up to there are its commands' encoding
 --     Reach: stops-at-end, one-at-end         from a place not past its end it stops at its end with 1 alone, and with 1 nowhere else; `enough`, as in Playing
 --     Reach: read-all-reach, reach-of-list    reading it whole answers the same; a list's encoding reads to its end, as the list
@@ -18,7 +18,7 @@
 --     Change: own-applied                     and a command of the open line does to the survey what it does to the line
 --     Once: species-stay, factors-stay, rows-stay     what is given once never changes
 --     Playing: plays-refused, plays-on, plays-end, plays-past-end     how playing goes on from a place; `enough`: how many commands are allowed makes no difference
---     Playing: plays-taken, plays-declined, plays-unread      and from a command whose change is known; `plays-noted`, `note-refused`: on an open line by itself
+--     Playing: plays-taken, plays-declined, plays-unread      and from a command whose change is known; `plays-updated`, `update-refused`: on an open line by itself
 --     Playing: play-valid, play-ended         a book is played to a valid survey, which has ended
 --     Playing: kept-to-the-end                what every command keeps is kept to the end of the book
 --     Playing: end-at-length, one-at-length, place-of-command, place-in-book      a refused book stops at its end with 1 alone, and with any other number at one of its bytes
@@ -46,7 +46,7 @@
 -- a command's bytes, and books
 pub mod Sheet
 pub mod Reach
-pub mod Book
+pub mod Reader
 -- checks that are passed and failed
 pub mod Checks
 -- surveys: applying a command is the text, and is deciding and changing; what is changed, and what a command is refused with
@@ -54,7 +54,7 @@ pub mod AsWritten
 pub mod Change
 pub mod Closing
 pub mod Effect
-pub mod Once
+pub mod Stable
 pub mod Valid
 pub mod Named
 pub mod Limit

@@ -5,7 +5,7 @@
 -- read from the top: `unless test n` is the refusal n where the test fails, `when test n` where it holds, and else what follows; `first then λ x. rest` is
 -- the rest with the figure x that the first gives, or the first's refusal.
 -- a command's bytes, and books
-pub mod Book
+pub mod Reader
 -- lines and surveys
 pub mod Survey
 pub mod AsWritten
@@ -16,7 +16,7 @@ pub mod Change
 pub mod Valid
 -- whole books: totalling, and demand 3
 pub mod Playing
-pub mod Noting
+pub mod LineUpdate
 pub mod Sheet
 pub mod Total
 pub mod Demand3

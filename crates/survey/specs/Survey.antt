@@ -11,7 +11,7 @@ use Rattle.biomass.specs.Report.{Report, refused, gives, unless, _then_, when}
 use Rattle.biomass.specs.Limits.{mostMeasured, mostHeights, mostEstimated, greatestArea}
 use Rattle.biomass.specs.declared.tree.AverageTree.{AverageTree}
 use Rattle.codec.specs.Refusal.{number}
-use Rattle.line.specs.Line.{begun, withTrees, withHeight, tariffOf, T-of, d-of, N-of, factorAt, factorFor, treeWith, Estimate, noTrees, estimatedRow, emptyRow}
+use Rattle.line.specs.Line.{newLine, withTrees, withHeight, tariffOf, T-of, d-of, N-of, factorAt, factorFor, treeWith, Estimate, noTrees, estimatedRow, emptyRow}
 use Rattle.codec.specs.declared.command.Species.{Species}
 use Rattle.line.specs.declared.row.Row.{Row}
 use Rattle.line.specs.declared.line.Line.{Line}
@@ -50,7 +50,7 @@ abbrev pub undeclared : Species
 undeclared = record { crown = 0; root = 0; gravity = 0; c1 = pos 0; c2 = pos 0; c3 = pos 0; c4 = pos 0 }
 
 abbrev pub noLine : Line
-noLine = begun 0 0 undeclared 0 0
+noLine = newLine 0 0 undeclared 0 0
 
 -- the survey before the first command
 unfoldable pub fresh : Survey
@@ -170,7 +170,7 @@ unfoldable pub openLine : ℕ → ℕ → ℕ → ℕ → Survey → Report Surv
 openLine stratum id p q s =
     when (s .ended) 5
     (opening p q (s .active) (declared id s) (opened stratum id s) (s .closed)
-    (gives (withOpened s (begun stratum id (speciesAt s id) p q))))
+    (gives (withOpened s (newLine stratum id (speciesAt s id) p q))))
 
 -- "04 measured trees: class in cm (1, 7 to 100), count (2, 1 and up)." "1,000,000 measured trees .. a line"
 -- "Measured: 10 no line open; 6; 11 over the limit."
@@ -227,8 +227,8 @@ close s =
 abbrev pub ending : {A : Type 0} → Bool → Report A → Report A
 ending is-open next = when is-open 9 next
 
-unfoldable pub finish : Survey → Report Survey
-finish s =
+unfoldable pub end : Survey → Report Survey
+end s =
     when (s .ended) 5
     (ending (s .active)
     (gives (withEnd s)))

@@ -35,8 +35,8 @@ unfoldable pub sumOf : (Row → ℕ) → List Row → ℕ
 sumOf figure [] = 0
 sumOf figure (r ∷ rs) = figure r + sumOf figure rs
 
-abbrev pub treesOf : Row → ℕ
-treesOf r = r .trees
+abbrev pub rowTrees : Row → ℕ
+rowTrees r = r .trees
 
 abbrev pub lowOf : Row → ℕ
 lowOf r = r .biomass .low .0
@@ -52,8 +52,8 @@ unfoldable pub totalOf : List Row → Totals
 totalOf rows =
     record {
       rows = length rows;
-      trees = sumOf treesOf rows;
-      carbon = projectOf (sums rows) (sumOf treesOf rows);
+      trees = sumOf rowTrees rows;
+      carbon = projectOf (sums rows) (sumOf rowTrees rows);
     }
 
 -- ---- totalling
@@ -76,13 +76,13 @@ unfoldable pub total : List ℕ → List ℕ → Answer
 total book sheet = answerInto sheet (playBy asWritten book)
 
 -- "The sheet keeps every byte. On acceptance .. the rows stand from byte 0 on, and only the rows' bytes change."
-abbrev pub laidBy : List ℕ → Played → List ℕ
-laidBy sheet (stopped n at) = sheet
-laidBy sheet (ended s) = storedAt sheet 0 (sheetBytes (rowsOf s))
+abbrev pub storedBy : List ℕ → Played → List ℕ
+storedBy sheet (stopped n at) = sheet
+storedBy sheet (ended s) = storedAt sheet 0 (sheetBytes (rowsOf s))
 
 -- that sheet after a book that was played so
-abbrev pub laidInto : List ℕ → Played → List ℕ
-laidInto sheet p = cond (short sheet) sheet (laidBy sheet p)
+abbrev pub storedInto : List ℕ → Played → List ℕ
+storedInto sheet p = cond (short sheet) sheet (storedBy sheet p)
 
 unfoldable pub sheetAfter : List ℕ → List ℕ → List ℕ
-sheetAfter book sheet = laidInto sheet (playBy asWritten book)
+sheetAfter book sheet = storedInto sheet (playBy asWritten book)

@@ -7,9 +7,9 @@ use biomass::whole::within;
 use codec::command::Command;
 use codec::command::Species;
 use codec::refusal::Refusal;
-use line::line::Closed;
+use line::line::Estimated;
 use line::line::Line;
-use line::line::Noted;
+use line::line::Updated;
 use line::row::Row;
 ghost use mathlib.Core.Path.{_≡_};
 ghost use lib.ListN.{take};
@@ -17,8 +17,8 @@ ghost use lib.Dec.{ltb};
 ghost use Rattle.biomass.specs.Report.{gives};
 ghost use Rattle.line.specs.Line.{factorAt};
 ghost use Rattle.survey.specs.Survey.{speciesInRange, declaredAs, declaring, giving, isLine, anyLine, areasInRange};
-ghost use Rattle.line.specs.AnyLine.{noted};
-ghost use Rattle.survey.specs.Change.{told, named, opens, notes, closes, ends, decided};
+ghost use Rattle.line.specs.AnyLine.{updated};
+ghost use Rattle.survey.specs.Change.{decision, named, opens, updates, closes, ends, decided};
 
 // What a taken command changes, or why it is refused.
 pub(crate) enum Change {
@@ -96,7 +96,7 @@ fn is_line(row: Row, stratum: u8, id: u8) -> bool
 }
 
 // Whether a line of this stratum and species was closed before.
-pub(crate) fn has_row(rows: [Row; MOST_LINES], closed: usize, line: Named) -> bool
+pub(crate) fn any_line(rows: [Row; MOST_LINES], closed: usize, line: Named) -> bool
     ensures { λ r. ⌜ r ≡ anyLine (line .stratum) (line .species) (take closed rows) ⌝ }
 {
     let mut i: usize = 0;
@@ -141,7 +141,7 @@ fn is_declared(id: u8, there: Species) -> bool
 
 // 01: declares a species.
 fn declaring(id: u8, species: Species, there: Species) -> Change
-    ensures { λ r. ⌜ told r ≡ declaring id species (declaredAs id there) (gives (Change.Species id species)) ⌝ }
+    ensures { λ r. ⌜ decision r ≡ declaring id species (declaredAs id there) (gives (Change.Species id species)) ⌝ }
 {
     if !species_in_range(id, species) {
         return Change::Refused(Refusal::Operand);
@@ -154,7 +154,7 @@ fn declaring(id: u8, species: Species, there: Species) -> Change
 
 // 02: gives the factor at a whole cm.
 fn giving(cm: u8, factor: u8, factors: &[u8; 101]) -> Change
-    ensures { λ r. ⌜ told r ≡ giving cm factor (ltb 0 (factorAt (now (factors .entry)) cm)) (gives (Change.Factor cm factor)) ⌝ }
+    ensures { λ r. ⌜ decision r ≡ giving cm factor (ltb 0 (factorAt (now (factors .entry)) cm)) (gives (Change.Factor cm factor)) ⌝ }
 {
     if !within(7, cm as u64, 100) {
         return Change::Refused(Refusal::Operand);
@@ -181,7 +181,7 @@ fn areas_in_range(p: u32, q: u32) -> bool
 
 // 03: opens a line.
 fn opening(stratum: u8, id: u8, p: u32, q: u32, seen: Seen) -> Change
-    ensures { λ r. ⌜ told r ≡ opens stratum id p q seen ⌝ }
+    ensures { λ r. ⌜ decision r ≡ opens stratum id p q seen ⌝ }
 {
     if !areas_in_range(p, q) {
         return Change::Refused(Refusal::Operand);
@@ -202,29 +202,29 @@ fn opening(stratum: u8, id: u8, p: u32, q: u32, seen: Seen) -> Change
 }
 
 // A command of the open line, with what became of the line.
-fn noting(active: bool, answer: Noted) -> Change
-    ensures { λ r. ⌜ told r ≡ notes active (noted answer) ⌝ }
+fn updating(active: bool, answer: Updated) -> Change
+    ensures { λ r. ⌜ decision r ≡ updates active (updated answer) ⌝ }
 {
     if !active {
         return Change::Refused(Refusal::NoLine);
     }
     match answer {
-        Noted::Is(line) => Change::Line(line),
-        Noted::Refused(why) => Change::Refused(why),
+        Updated::Is(line) => Change::Line(line),
+        Updated::Refused(why) => Change::Refused(why),
     }
 }
 
 // 06: closes the line.
 fn closing(seen: Seen, line: Line, factors: &[u8; 101]) -> Change
-    ensures { λ r. ⌜ told r ≡ closes seen line (now (factors .entry)) ⌝ }
+    ensures { λ r. ⌜ decision r ≡ closes seen line (now (factors .entry)) ⌝ }
 {
     if !seen.active {
         return Change::Refused(Refusal::NoLine);
     }
     let given = *factors;
     let row = match line.row(given) {
-        Closed::Is(row) => row,
-        Closed::Refused(why) => return Change::Refused(why),
+        Estimated::Is(row) => row,
+        Estimated::Refused(why) => return Change::Refused(why),
     };
     let at = seen.closed;
     // No survey reaches this with a line open.
@@ -236,7 +236,7 @@ fn closing(seen: Seen, line: Line, factors: &[u8; 101]) -> Change
 
 // 07: ends the book.
 fn ending(active: bool) -> Change
-    ensures { λ r. ⌜ told r ≡ ends active ⌝ }
+    ensures { λ r. ⌜ decision r ≡ ends active ⌝ }
 {
     if active {
         return Change::Refused(Refusal::LineOpen);
@@ -246,7 +246,7 @@ fn ending(active: bool) -> Change
 
 // What a command changes of a survey of which it sees this.
 pub(crate) fn decide(command: Command, seen: Seen, line: Line, factors: &[u8; 101]) -> Change
-    ensures { λ r. ⌜ told r ≡ decided command seen line (now (factors .entry)) ⌝ }
+    ensures { λ r. ⌜ decision r ≡ decided command seen line (now (factors .entry)) ⌝ }
 {
     if seen.ended {
         return Change::Refused(Refusal::Ended);
@@ -260,8 +260,8 @@ pub(crate) fn decide(command: Command, seen: Seen, line: Line, factors: &[u8; 10
             p,
             q,
         } => opening(stratum, species, p, q, seen),
-        Command::Measured { class, count } => noting(seen.active, line.measured(class, count)),
-        Command::Height { cm, tenths } => noting(seen.active, line.height(cm, tenths)),
+        Command::Measured { class, count } => updating(seen.active, line.add_trees(class, count)),
+        Command::Height { cm, tenths } => updating(seen.active, line.add_height(cm, tenths)),
         Command::Close => closing(seen, line, factors),
         Command::End => ending(seen.active),
     }

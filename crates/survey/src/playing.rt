@@ -1,8 +1,8 @@
 // Playing a book: its commands are applied to a fresh survey, to the end of the book or to the first refusal.
 use super::change::Change;
 use super::change::Seen;
+use super::change::any_line;
 use super::change::decide;
-use super::change::has_row;
 use super::change::names;
 use super::survey::Outcome;
 use super::survey::Survey;
@@ -12,12 +12,12 @@ use codec::reading::read;
 use codec::reading::read_of_line;
 use codec::refusal::Refusal;
 use line::line::Line;
-use line::line::Noted;
+use line::line::Updated;
 ghost use mathlib.Core.Path.{_≡_};
 ghost use Rattle.codec.specs.Refusal.{number};
-ghost use Rattle.line.specs.AnyLine.{noted};
+ghost use Rattle.line.specs.AnyLine.{updated};
 ghost use Rattle.survey.specs.Playing.{stopped, played, comesTo, afterEnd, play};
-ghost use Rattle.survey.specs.Noting.{noting, notedTo, note};
+ghost use Rattle.survey.specs.LineUpdate.{lineUpdate, updatedTo, updateLine};
 
 // How far a book is played: the survey, the place after the last command, and what became of that command. Where a book
 // is stopped, the place is that of the refused command.
@@ -28,9 +28,9 @@ pub(crate) struct Played {
 }
 
 // The open line after a command and the place after it, or why the command is refused; or that it is not one of the line's own.
-enum Noting {
+enum LineUpdate {
     Is(Line, usize),
-    NotOfTheLine,
+    Other,
     Refused(Refusal),
 }
 
@@ -64,26 +64,26 @@ fn end(book: &[u8], at: usize) -> Halt
 }
 
 // What became of the line, with the place after the command.
-fn noted_to(answer: Noted, next: usize) -> Noting
-    ensures { λ r. ⌜ noting r ≡ notedTo next (noted answer) ⌝ }
+fn updated_to(answer: Updated, next: usize) -> LineUpdate
+    ensures { λ r. ⌜ lineUpdate r ≡ updatedTo next (updated answer) ⌝ }
 {
     match answer {
-        Noted::Is(line) => Noting::Is(line, next),
-        Noted::Refused(why) => Noting::Refused(why),
+        Updated::Is(line) => LineUpdate::Is(line, next),
+        Updated::Refused(why) => LineUpdate::Refused(why),
     }
 }
 
 // One command: read at the place, and noted on the open line where it is the line's own.
-fn note(book: &[u8], at: usize, line: Line) -> Noting
-    ensures { λ r. ⌜ noting r ≡ note (now (book .entry)) at line ⌝ }
+fn update_line(book: &[u8], at: usize, line: Line) -> LineUpdate
+    ensures { λ r. ⌜ lineUpdate r ≡ updateLine (now (book .entry)) at line ⌝ }
 {
     match read_of_line(book, at) {
         Reading::Is(command, next) => match command {
-            Command::Measured { class, count } => noted_to(line.measured(class, count), next),
-            Command::Height { cm, tenths } => noted_to(line.height(cm, tenths), next),
-            _ => Noting::NotOfTheLine,
+            Command::Measured { class, count } => updated_to(line.add_trees(class, count), next),
+            Command::Height { cm, tenths } => updated_to(line.add_height(cm, tenths), next),
+            _ => LineUpdate::Other,
         },
-        Reading::Refused(why) => Noting::Refused(why),
+        Reading::Refused(why) => LineUpdate::Refused(why),
     }
 }
 
@@ -98,13 +98,13 @@ pub(crate) fn play(book: &[u8]) -> Played
     let halt = 'lines: loop {
         let mut line = survey.line;
         while survey.active {
-            match note(book, at, line) {
-                Noting::Is(after, next) => {
+            match update_line(book, at, line) {
+                LineUpdate::Is(after, next) => {
                     line = after;
                     at = next;
                 }
-                Noting::NotOfTheLine => break,
-                Noting::Refused(why) => break 'lines stop(at, why),
+                LineUpdate::Other => break,
+                LineUpdate::Refused(why) => break 'lines stop(at, why),
             }
         }
         survey.line = line;
@@ -115,7 +115,7 @@ pub(crate) fn play(book: &[u8]) -> Played
                 let i = (named.species % 16) as usize;
                 let there = survey.species[i];
                 let before = if named.line {
-                    has_row(survey.rows, survey.closed, named)
+                    any_line(survey.rows, survey.closed, named)
                 } else {
                     false
                 };

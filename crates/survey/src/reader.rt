@@ -5,7 +5,7 @@ use codec::reading::read;
 use codec::refusal::Refusal;
 ghost use mathlib.Core.Path.{_≡_};
 ghost use Rattle.codec.specs.Reading.{reading, read, placeAfter};
-ghost use Rattle.survey.specs.Book.{reach, through, counted};
+ghost use Rattle.survey.specs.Reader.{reach, extent, counted};
 
 // A book, and the place of the command that is read next.
 pub struct BookReader<'a> {
@@ -14,14 +14,14 @@ pub struct BookReader<'a> {
 }
 
 // What a reader answers at a place, and the place to go on from.
-pub struct Onward {
+pub struct Advance {
     pub reading: Reading,
     pub at: usize,
 }
 
 // How far a book reads: how many commands, the place where reading stopped, and why, which is AtEnd at the end of the book
 // and past it.
-pub struct Through {
+pub struct Extent {
     pub commands: usize,
     pub at: usize,
     pub why: Refusal,
@@ -47,32 +47,32 @@ impl<'a> BookReader<'a> {
 }
 
 // What a reader of the book answers with its cursor at a place, for callers that keep the book and the place themselves.
-pub fn command_at(book: &[u8], at: usize) -> Onward
+pub fn command_at(book: &[u8], at: usize) -> Advance
     ensures answer { λ r. ⌜ reading (r .reading) ≡ read (now (book .entry)) at ⌝ }
     ensures cursor { λ r. ⌜ r .at ≡ placeAfter at (reading (r .reading)) ⌝ }
 {
     let mut reader = BookReader::new(book);
     reader.at = at;
     let reading = reader.next();
-    Onward {
+    Advance {
         reading,
         at: reader.at,
     }
 }
 
 // Reads a book from a place on, command by command, to its end or to the first refusal.
-pub fn read_through(book: &[u8], from: usize) -> Through
-    ensures { λ r. ⌜ through r ≡ counted (reach (now (book .entry)) from) ⌝ }
+pub fn read_through(book: &[u8], from: usize) -> Extent
+    ensures { λ r. ⌜ extent r ≡ counted (reach (now (book .entry)) from) ⌝ }
 {
     let mut commands: usize = 0;
     let mut at = from;
     loop {
-        let onward = command_at(book, at);
-        let reading = onward.reading;
+        let advance = command_at(book, at);
+        let reading = advance.reading;
         if let Reading::Refused(why) = reading {
-            return Through { commands, at, why };
+            return Extent { commands, at, why };
         }
         commands += 1;
-        at = onward.at;
+        at = advance.at;
     }
 }

@@ -1,8 +1,8 @@
 // The survey: what a field book has given so far. A command is applied to it, and it comes back beside the refusal.
 use super::change::Change;
 use super::change::Seen;
+use super::change::any_line;
 use super::change::decide;
-use super::change::has_row;
 use super::change::names;
 use codec::command::Command;
 use codec::command::Species;
@@ -10,7 +10,7 @@ use codec::refusal::Refusal;
 use line::line::Line;
 use line::row::Row;
 ghost use mathlib.Core.Path.{_≡_};
-ghost use Rattle.survey.specs.Survey.{outcome, applied, leaves, fresh, declare, giveFactor, openLine, finish};
+ghost use Rattle.survey.specs.Survey.{outcome, applied, leaves, fresh, declare, giveFactor, openLine, end};
 ghost use Rattle.survey.specs.Apply.{applyMeasured, applyHeight, applyClose, apply};
 ghost use Rattle.survey.specs.Change.{changed, HasPlace};
 
@@ -128,7 +128,7 @@ impl Survey {
         let i = (named.species % 16) as usize;
         let there = self.species[i];
         let before = if named.line {
-            has_row(self.rows, self.closed, named)
+            any_line(self.rows, self.closed, named)
         } else {
             false
         };
@@ -151,7 +151,7 @@ impl Survey {
     }
 
     // 02: gives the factor at a whole cm.
-    pub fn factor(self, cm: u8, factor: u8) -> Applied
+    pub fn give_factor(self, cm: u8, factor: u8) -> Applied
         ensures { λ r. ⌜ applied r ≡ leaves self (giveFactor cm factor self) ⌝ }
     {
         self.apply(Command::Factor { cm, factor })
@@ -170,14 +170,14 @@ impl Survey {
     }
 
     // 04: measured trees of the open line.
-    pub fn measured(self, class: u8, count: u16) -> Applied
+    pub fn measure(self, class: u8, count: u16) -> Applied
         ensures { λ r. ⌜ applied r ≡ leaves self (applyMeasured class count self) ⌝ }
     {
         self.apply(Command::Measured { class, count })
     }
 
     // 05: a height tree of the open line.
-    pub fn height(self, cm: u8, tenths: u16) -> Applied
+    pub fn give_height(self, cm: u8, tenths: u16) -> Applied
         ensures { λ r. ⌜ applied r ≡ leaves self (applyHeight cm tenths self) ⌝ }
     {
         self.apply(Command::Height { cm, tenths })
@@ -192,7 +192,7 @@ impl Survey {
 
     // 07: ends the book.
     pub fn end(self) -> Applied
-        ensures { λ r. ⌜ applied r ≡ leaves self (finish self) ⌝ }
+        ensures { λ r. ⌜ applied r ≡ leaves self (end self) ⌝ }
     {
         self.apply(Command::End)
     }

@@ -4,8 +4,8 @@ use super::sheet::SHEET_LENGTH;
 use super::sheet::store_rows;
 use super::survey::MOST_LINES;
 use super::survey::Outcome;
-use biomass::answer::Carbon;
 use biomass::project::project;
+use biomass::report::Carbon;
 use biomass::units::BiomassRange;
 use biomass::units::CarbonRange;
 use biomass::units::Milligrams;
@@ -19,7 +19,7 @@ ghost use Rattle.codec.specs.Bytes.{storedAt};
 ghost use Rattle.survey.specs.Survey.{mostLines};
 ghost use Rattle.survey.specs.Sheet.{sheetLength, sheetBytes};
 ghost use Rattle.survey.specs.Law.Sums.{RowsSmall};
-ghost use Rattle.survey.specs.Total.{answer, treesOf, sumOf, sums, totalled, totalOf, total, sheetAfter};
+ghost use Rattle.survey.specs.Total.{answer, rowTrees, sumOf, sums, totalled, totalOf, total, sheetAfter};
 ghost use Rattle.survey.specs.Demand3.{Demanded};
 
 // What comes of an accepted book.
@@ -46,7 +46,7 @@ struct Sums {
 
 fn add(rows: [Row; MOST_LINES], closed: usize) -> Sums
     requires { ⌜ (closed ≤ mostLines) × RowsSmall (take closed rows) ⌝ }
-    ensures { λ r. ⌜ (r .trees ≡ sumOf treesOf (take closed rows)) × (r .biomass ≡ sums (take closed rows)) ⌝ }
+    ensures { λ r. ⌜ (r .trees ≡ sumOf rowTrees (take closed rows)) × (r .biomass ≡ sums (take closed rows)) ⌝ }
 {
     let mut trees: u64 = 0;
     let mut low: u64 = 0;
@@ -73,7 +73,7 @@ fn add(rows: [Row; MOST_LINES], closed: usize) -> Sums
 fn total_rows(sheet: &mut [u8], rows: [Row; MOST_LINES], closed: usize) -> Totalled
     requires { ⌜ (closed ≤ mostLines) × RowsSmall (take closed rows) × (sheetLength ≤ length (now sheet)) ⌝ }
     ensures answer { λ r. ⌜ answer r ≡ totalled (totalOf (take closed rows)) ⌝ }
-    ensures laid { λ _. ⌜ now (sheet .exit) ≡ storedAt (now (sheet .entry)) 0 (sheetBytes (take closed rows)) ⌝ }
+    ensures stored { λ _. ⌜ now (sheet .exit) ≡ storedAt (now (sheet .entry)) 0 (sheetBytes (take closed rows)) ⌝ }
 {
     let sums = add(rows, closed);
     let trees = sums.trees;
@@ -98,7 +98,7 @@ fn total_rows(sheet: &mut [u8], rows: [Row; MOST_LINES], closed: usize) -> Total
 // Totals a book into a sheet. Where it is refused, the sheet is as it was.
 pub fn total(book: &[u8], sheet: &mut [u8]) -> Totalled
     ensures answer { λ r. ⌜ answer r ≡ total (now (book .entry)) (now (sheet .entry)) ⌝ }
-    ensures laid { λ _. ⌜ now (sheet .exit) ≡ sheetAfter (now (book .entry)) (now (sheet .entry)) ⌝ }
+    ensures stored { λ _. ⌜ now (sheet .exit) ≡ sheetAfter (now (book .entry)) (now (sheet .entry)) ⌝ }
     ensures demand3 { λ r. ⌜ Demanded (now (book .entry)) (answer r) ⌝ }
 {
     if sheet.len() < SHEET_LENGTH {

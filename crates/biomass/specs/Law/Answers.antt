@@ -14,7 +14,7 @@ use Rattle.biomass.specs.Ends.{range}
 use Rattle.biomass.specs.Stem.{stem, stemEnds}
 use Rattle.biomass.specs.Crown.{crown, crownEnds}
 use Rattle.biomass.specs.Root.{root, rootEnds}
-use Rattle.biomass.specs.Tree.{treeOf, tree, row, rowOf}
+use Rattle.biomass.specs.Tree.{treeOf, tree, rowBiomass, rowOf}
 use Rattle.biomass.specs.Project.{project, projectOf, greatestSum}
 use Rattle.biomass.specs.Law.Report.{Inside, true-inside}
 use Rattle.biomass.specs.Law.Tree.{Operands}
@@ -59,8 +59,8 @@ tree-answers t o =
       root-answers (t .root) (t .d) (o .root) (o .d),
     )
 
-pub row-answers : (N : ℕ) (t : AverageTree) → Inside 0 N mostEstimated → Operands t → row N t ≡ gives (rowOf N (treeOf t))
-unfolding row
+pub row-answers : (N : ℕ) (t : AverageTree) → Inside 0 N mostEstimated → Operands t → rowBiomass N t ≡ gives (rowOf N (treeOf t))
+unfolding rowBiomass
 row-answers N t n o = open-to 6 _ n ∙ ap (λ (r : Report BiomassRange). r then (λ m. gives (rowOf N m))) (tree-answers t o)
 
 pub project-answers : (sums : BiomassRange) (N : ℕ) → Inside 0 (sums .low .0) greatestSum → Inside 0 (sums .high .0) greatestSum → project sums N ≡ gives (projectOf sums N)

@@ -15,7 +15,7 @@ use Rattle.biomass.specs.Ends.{range}
 use Rattle.biomass.specs.Stem.{stem, stemEnds}
 use Rattle.biomass.specs.Crown.{crown, crownEnds}
 use Rattle.biomass.specs.Root.{root, rootEnds}
-use Rattle.biomass.specs.Tree.{tree, added, row, rowOf}
+use Rattle.biomass.specs.Tree.{tree, added, rowBiomass, rowOf}
 use Rattle.biomass.specs.Project.{project, projectOf, greatestSum}
 use Rattle.biomass.specs.Law.Gives.{never, number-is}
 use Rattle.biomass.specs.declared.units.BiomassRange.{BiomassRange}
@@ -120,8 +120,8 @@ tree-declines t =
     then-declines Six (root (t .root) (t .d)) _ (root-declines (t .root) (t .d)) (λ r.
     gives-declines Six (added s c r))))
 
-pub row-declines : (N : ℕ) (t : AverageTree) → Declines Six (row N t)
-unfolding row
+pub row-declines : (N : ℕ) (t : AverageTree) → Declines Six (rowBiomass N t)
+unfolding rowBiomass
 row-declines N t = six (inside 0 N mostEstimated) _ (then-declines Six (tree t) _ (tree-declines t) (λ m. gives-declines Six (rowOf N m)))
 
 pub project-declines : (sums : BiomassRange) (N : ℕ) → Declines Six (project sums N)

@@ -19,7 +19,7 @@ use Rattle.biomass.specs.Crown as Crown
 use Rattle.biomass.specs.Crown.{crownEnds}
 use Rattle.biomass.specs.Root as Root
 use Rattle.biomass.specs.Root.{rootEnds}
-use Rattle.biomass.specs.Tree.{tree, row, rowLow, rowHigh}
+use Rattle.biomass.specs.Tree.{tree, rowBiomass, rowLow, rowHigh}
 use Rattle.biomass.specs.Fraction.{Fraction, whole, _⊕_, _⊗_, _over_, _≼_}
 use Rattle.biomass.specs.Exact.{Given, value, NotBelowCrown, NotAboveCrown, NotBelowRoot, NotAboveRoot, exactLine, exactStem, exactCrown, exactRoot, exactTree, exactRow, NotBelow, NotAbove}
 use Rattle.biomass.specs.Law.Signed.{pos-le}
@@ -201,7 +201,7 @@ module _ (N : ℕ) (t : AverageTree) (m : BiomassRange) (e : tree t ≡ gives m)
   high-not-over n = row-high N m (tree-not-over t m e crownPower rootPower n)
 
 -- Both, with one number
-module _ (N : ℕ) (t : AverageTree) (m : BiomassRange) (e : row N t ≡ gives m) (crownPower rootPower : Given) where
+module _ (N : ℕ) (t : AverageTree) (m : BiomassRange) (e : rowBiomass N t ≡ gives m) (crownPower rootPower : Given) where
   pub row-not-under : NotBelow t crownPower rootPower → whole (pos (m .low .0)) ≼ exactRow N t crownPower rootPower
   row-not-under n =
       let g = row-gives N t m e in

@@ -33,9 +33,9 @@ pub ≼-trans : {x y z : Fraction} → 0 < y .den → x ≼ y → y ≼ z → x 
     from-nat (le-of-mul-le-mul-left {k = y .den} (omega arith) some)
 
 -- two comparisons with the same denominators, added
-added : (a a′ b b′ u u′ v v′ m n : ℕ) → a * m + u′ * n ≤ a′ * n + u * m → b * m + v′ * n ≤ b′ * n + v * m
+sums-ordered : (a a′ b b′ u u′ v v′ m n : ℕ) → a * m + u′ * n ≤ a′ * n + u * m → b * m + v′ * n ≤ b′ * n + v * m
     → (a + b) * m + (u′ + v′) * n ≤ (a′ + b′) * n + (u + v) * m
-added a a′ b b′ u u′ v v′ m n h k = omega arith
+sums-ordered a a′ b b′ u u′ v v′ m n h k = omega arith
 
 pub ⊕-mono : {x x′ y y′ : Fraction} → x ≼ x′ → y ≼ y′ → x ⊕ y ≼ x′ ⊕ y′
 ⊕-mono {x} {x′} {y} {y′} h k =
@@ -44,7 +44,7 @@ pub ⊕-mono : {x x′ y y′ : Fraction} → x ≼ x′ → y ≼ y′ → x �
           le-from
           (times (add (times (parts (x .num)) (y .den)) (times (parts (y .num)) (x .den))) (x′ .den * y′ .den))
           (times (add (times (parts (x′ .num)) (y′ .den)) (times (parts (y′ .num)) (x′ .den))) (x .den * y .den))
-          (added _ _ _ _ _ _ _ _ _ _
+          (sums-ordered _ _ _ _ _ _ _ _ _ _
           (omega (arith, mul-le-mul-left (y .den * y′ .den) (to-nat h)))
           (omega (arith, mul-le-mul-left (x .den * x′ .den) (to-nat k))));
     }

@@ -66,7 +66,7 @@ module _ (n S : ℕ) (trees : Inside 1 n mostMeasured) (squares : Inside (49 * n
   pub mean-is : IsMean n S (meanOf n S)
   mean-is =
       record {
-        whole = omega (arith, from-least);
+        not-cut-off = omega (arith, from-least);
         not-above = holds;
         below = lt-of-not-le (λ le. lt-irrefl (meanOf n S) (omega (arith, is-greatest (meanOf n S + 1) (rw next-odd le))));
       }

@@ -14,7 +14,7 @@ use Rattle.powers.specs.Diameter.{unitsToCm, crownLimit, rootLimit}
 use Rattle.powers.specs.Crown.{crownExponent, crownDegree, crownShift, w}
 use Rattle.biomass.specs.Root.{rootShift, y}
 use Rattle.biomass.specs.Exact.{Given, NotBelowCrown, NotAboveCrown, NotBelowRoot, NotAboveRoot}
-use Rattle.powers.specs.Law.Greatest.{square-root-is, root-not-above, root-below, root-mono}
+use Rattle.powers.specs.Law.Greatest.{square-root-is, whole-root-not-above, whole-root-below, whole-root-rises}
 use Rattle.powers.specs.Law.Scaled.{near, tested}
 use Rattle.powers.specs.Law.Crown.{w-is}
 
@@ -54,24 +54,24 @@ module _ (m c e : ℕ) (positive : 0 < m) (five : c + e ≡ 5 * m) where
   not-under : (d r t : ℕ) → t ^ m * d ^ e ≤ r ^ m * unitsToCm ^ e → wholeRoot m (10 ^ c * d ^ e) * t ≤ 10 ^ 5 * r
   not-under d r t h =
       le-of-pow-le positive (rw (mul-pow (wholeRoot m (10 ^ c * d ^ e)) t m, tens-of r)
-      (omega (arith, mul-le-mul-right (t ^ m) (root-not-above m (10 ^ c * d ^ e) positive), mul-le-mul-left (10 ^ c) h)))
+      (omega (arith, mul-le-mul-right (t ^ m) (whole-root-not-above m (10 ^ c * d ^ e) positive), mul-le-mul-left (10 ^ c) h)))
 
   -- and one that is not above it is not over the root and 1
   not-over : (d r t : ℕ) → r ^ m * unitsToCm ^ e ≤ t ^ m * d ^ e → 10 ^ 5 * r ≤ (wholeRoot m (10 ^ c * d ^ e) + 1) * t
   not-over d r t h =
       le-of-pow-le positive (rw (mul-pow (wholeRoot m (10 ^ c * d ^ e) + 1) t m, tens-of r)
-      (omega (arith, mul-le-mul-right (t ^ m) (root-below m (10 ^ c * d ^ e) positive), mul-le-mul-left (10 ^ c) h)))
+      (omega (arith, mul-le-mul-right (t ^ m) (whole-root-below m (10 ^ c * d ^ e) positive), mul-le-mul-left (10 ^ c) h)))
 
   -- the root itself, in units of 10^-5, is not above the power, and the root and 1 are not below it
   root-not-over : (d : ℕ) → wholeRoot m (10 ^ c * d ^ e) ^ m * unitsToCm ^ e ≤ (10 ^ 5) ^ m * d ^ e
-  root-not-over d = rw tens (omega (arith, mul-le-mul-right (unitsToCm ^ e) (root-not-above m (10 ^ c * d ^ e) positive)))
+  root-not-over d = rw tens (omega (arith, mul-le-mul-right (unitsToCm ^ e) (whole-root-not-above m (10 ^ c * d ^ e) positive)))
 
   next-not-under : (d : ℕ) → (10 ^ 5) ^ m * d ^ e ≤ (wholeRoot m (10 ^ c * d ^ e) + 1) ^ m * unitsToCm ^ e
-  next-not-under d = rw tens (omega (arith, mul-le-mul-right (unitsToCm ^ e) (root-below m (10 ^ c * d ^ e) positive)))
+  next-not-under d = rw tens (omega (arith, mul-le-mul-right (unitsToCm ^ e) (whole-root-below m (10 ^ c * d ^ e) positive)))
 
   -- the root rises with d
   rises : {d d′ : ℕ} → d ≤ d′ → wholeRoot m (10 ^ c * d ^ e) ≤ wholeRoot m (10 ^ c * d′ ^ e)
-  rises h = root-mono m positive (mul-le-mul-left (10 ^ c) (pow-le-pow-left h e))
+  rises h = whole-root-rises m positive (mul-le-mul-left (10 ^ c) (pow-le-pow-left h e))
 
 -- ---- fractions in units of 10^-5
 

@@ -7,9 +7,9 @@ use borrow.Author.Tests.{leb-true, le-leb, not-true, not-false}
 use Rattle.biomass.specs.Whole.{inside}
 use Rattle.biomass.specs.Report.{Report, refused, gives, unless, when, _then_, refusalNumber, count, biomass}
 use Rattle.biomass.specs.declared.units.BiomassRange.{BiomassRange}
-use Rattle.biomass.specs.declared.answer.Refusal.{Refusal}
-use Rattle.biomass.specs.declared.answer.Count.{Count}
-use Rattle.biomass.specs.declared.answer.Biomass.{Biomass}
+use Rattle.biomass.specs.declared.report.Refusal.{Refusal}
+use Rattle.biomass.specs.declared.report.Count.{Count}
+use Rattle.biomass.specs.declared.report.Biomass.{Biomass}
 
 -- The code refuses where `!answer` and goes on where not; `answer` is the routine's own test, which its promise makes the definition's
 pub refuses : {A : Type 0} {answer : Bool} {n : ℕ} (test : Bool) (next : Report A) → answer ≡ test → not answer ≡ true → refused n ≡ unless test n next

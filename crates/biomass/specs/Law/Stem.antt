@@ -42,11 +42,11 @@ abbrev pub base : ℕ → ℕ
 base T = 360541 * 10 ^ 10 * T
 
 -- z where it is 0 or above, and −z where it is below
-abbrev pub over : ℕ → ℕ
-over d = G d - 118288000
+abbrev pub excess : ℕ → ℕ
+excess d = G d - 118288000
 
-abbrev pub under : ℕ → ℕ
-under d = 118288000 - G d
+abbrev pub deficit : ℕ → ℕ
+deficit d = 118288000 - G d
 
 pub slope-is : (T : ℕ) → 1 ≤ T → A T ≡ pos (slope T)
 slope-is T t = ap (λ x. (pos 315049301 *ℤ x) div 10 ^ 10) (pos-minus {n = 138763302} {b = 10 ^ 9 * T} (omega arith))
@@ -67,29 +67,29 @@ module _ (T d : ℕ) (r : InRange T d) where
   slope-most : slope T ≤ 1570874776
   slope-most = omega arith
 
-  over-most : over d ≤ 667110162
+  over-most : excess d ≤ 667110162
   over-most = omega (arith, mul-le-mul (r .3) (r .3))
 
-  under-most : under d ≤ 114439550
+  under-most : deficit d ≤ 114439550
   under-most = omega (arith, mul-le-mul (r .2) (r .2))
 
   -- the most that is added to the base, and that what is taken from it leaves it 0 or above
-  pub rise-fits : (slope T + 1) * (over d + 1) ≤ 1570874777 * 667110163
+  pub rise-fits : (slope T + 1) * (excess d + 1) ≤ 1570874777 * 667110163
   rise-fits =
       let slope-fits : slope T + 1 ≤ 1570874777 = omega (arith, slope-most) in
-      let over-fits : over d + 1 ≤ 667110163 = omega (arith, over-most) in
+      let over-fits : excess d + 1 ≤ 667110163 = omega (arith, over-most) in
       mul-le-mul slope-fits over-fits
 
-  pub greater-fall-fits : (slope T + 1) * under d ≤ base T
+  pub greater-fall-fits : (slope T + 1) * deficit d ≤ base T
   greater-fall-fits = omega (arith, mul-le-mul (le-refl (slope T + 1)) under-most)
 
-  pub lesser-fall-fits : slope T * (under d - 1) ≤ base T
+  pub lesser-fall-fits : slope T * (deficit d - 1) ≤ base T
   lesser-fall-fits =
       let less : slope T ≤ slope T + 1 = omega arith in
-      let one-less : under d - 1 ≤ under d = omega arith in
+      let one-less : deficit d - 1 ≤ deficit d = omega arith in
       omega (arith, greater-fall-fits, mul-le-mul less one-less)
 
-  pub volumes-over : 118288000 ≤ G d → Volumes T d (base T + slope T * over d) (base T + (slope T + 1) * (over d + 1))
+  pub volumes-over : 118288000 ≤ G d → Volumes T d (base T + slope T * excess d) (base T + (slope T + 1) * (excess d + 1))
   unfolding VL VH
   volumes-over k = record {
     low = rw (slope-is T (r .0), pos-minus {n = 118288000} {b = G d} k, leb·zero);
@@ -97,13 +97,13 @@ module _ (T d : ℕ) (r : InRange T d) where
     most = omega (arith, rise-fits);
   }
 
-  pub volumes-under : G d < 118288000 → Volumes T d (base T - (slope T + 1) * under d) (base T - slope T * (under d - 1))
+  pub volumes-under : G d < 118288000 → Volumes T d (base T - (slope T + 1) * deficit d) (base T - slope T * (deficit d - 1))
   unfolding VL VH
   volumes-under k =
-      let z-is : z d ≡ negsuc (under d - 1) = pos-minus-more k ∙ ap negsuc (omega arith) in
+      let z-is : z d ≡ negsuc (deficit d - 1) = pos-minus-more k ∙ ap negsuc (omega arith) in
       record {
-        low = rw (slope-is T (r .0), z-is) (fall (base T) (slope T + 1) (under d) (omega arith) greater-fall-fits);
-        high = rw (slope-is T (r .0), z-is) (fall-by-one-less (base T) (slope T) (under d) lesser-fall-fits);
+        low = rw (slope-is T (r .0), z-is) (fall (base T) (slope T + 1) (deficit d) (omega arith) greater-fall-fits);
+        high = rw (slope-is T (r .0), z-is) (fall-by-one-less (base T) (slope T) (deficit d) lesser-fall-fits);
         most = omega arith;
       }
 
@@ -112,21 +112,21 @@ module _ (T d : ℕ) (r : InRange T d) where
 abbrev pub circle : ℕ → ℕ
 circle d = 314159265 * (d * d)
 
-abbrev pub D : ℕ
-D = 10 ^ 10 * areaScale
+abbrev pub denominator : ℕ
+denominator = 10 ^ 10 * areaScale
 
 abbrev pub K : ℕ
 K = 118288000 * areaScale
 
 -- VL and VH in range: near each other, V not under VL, V not over VH
 pub record Enclosing (T d : ℕ) : Type 0 where
-  pub l : ℕ
-  pub h : ℕ
-  pub ends : Volumes T d l h
-  pub ordered : l ≤ h
-  pub near : h ≤ l + 2237984939
-  pub not-under : l * D + steep T * K ≤ base T * D + steep T * circle d
-  pub not-over : base T * D + steep T * circle d ≤ h * D + steep T * K
+  pub least : ℕ
+  pub greatest : ℕ
+  pub ends : Volumes T d least greatest
+  pub ordered : least ≤ greatest
+  pub near : greatest ≤ least + 2237984939
+  pub not-under : least * denominator + steep T * K ≤ base T * denominator + steep T * circle d
+  pub not-over : base T * denominator + steep T * circle d ≤ greatest * denominator + steep T * K
 
 module _ (T d : ℕ) (r : InRange T d) where
   slope-low : slope T * 10 ^ 10 ≤ steep T
@@ -140,11 +140,11 @@ module _ (T d : ℕ) (r : InRange T d) where
   enclosing-over k =
       let x = circle d - K in
       let x-is : circle d ≡ K + x = omega arith in
-      let x-low : over d * areaScale ≤ x = omega arith in
-      let x-high : x ≤ (over d + 1) * areaScale = omega arith in
+      let x-low : excess d * areaScale ≤ x = omega arith in
+      let x-high : x ≤ (excess d + 1) * areaScale = omega arith in
       record {
-        l = base T + slope T * over d;
-        h = base T + (slope T + 1) * (over d + 1);
+        least = base T + slope T * excess d;
+        greatest = base T + (slope T + 1) * (excess d + 1);
         ends = volumes-over T d r k;
         ordered = omega arith;
         near = omega (arith, slope-most T d r, over-most T d r);
@@ -155,21 +155,21 @@ module _ (T d : ℕ) (r : InRange T d) where
   -- z < 0: VH − VL is A − z. x over areaScale is the exact −z, so the greater slope gives the low
   near-under :
       G d < 118288000 →
-      (base T - (slope T + 1) * under d ≤ base T - slope T * (under d - 1))
-      × (base T - slope T * (under d - 1) ≤ base T - (slope T + 1) * under d + 2237984939)
+      (base T - (slope T + 1) * deficit d ≤ base T - slope T * (deficit d - 1))
+      × (base T - slope T * (deficit d - 1) ≤ base T - (slope T + 1) * deficit d + 2237984939)
   near-under k =
-      let under-is : under d ≡ under d - 1 + 1 = omega arith in
+      let under-is : deficit d ≡ deficit d - 1 + 1 = omega arith in
       omega (arith, ap (λ u. slope T * u) under-is, slope-most T d r, under-most T d r)
 
   enclosing-under : G d < 118288000 → Enclosing T d
   enclosing-under k =
       let x = K - circle d in
       let x-is : K ≡ circle d + x = omega arith in
-      let x-low : (under d - 1) * areaScale ≤ x = omega arith in
-      let x-high : x ≤ under d * areaScale = omega arith in
+      let x-low : (deficit d - 1) * areaScale ≤ x = omega arith in
+      let x-high : x ≤ deficit d * areaScale = omega arith in
       record {
-        l = base T - (slope T + 1) * under d;
-        h = base T - slope T * (under d - 1);
+        least = base T - (slope T + 1) * deficit d;
+        greatest = base T - slope T * (deficit d - 1);
         ends = volumes-under T d r k;
         ordered = near-under k .0;
         near = near-under k .1;
@@ -210,8 +210,8 @@ greatestStem = stemHigh greatestVolume 200 100
 pub stem-bounded : (T d f s : ℕ) → 1 ≤ T → T ≤ 50 → leastD ≤ d → d ≤ greatestD → f ≤ 200 → s ≤ 100 → Bounded (stemEnds T d f s) 50 greatestStem
 stem-bounded T d f s T-least T-most d-least d-most f-most s-most =
     let v = enclosing T d (T-least, T-most, d-least, d-most) in
-    let L = v .l / 10 ^ 8 in
-    let H = v .h / 10 ^ 8 + 1 in
+    let L = v .least / 10 ^ 8 in
+    let H = v .greatest / 10 ^ 8 + 1 in
     let ordered : L ≤ H = omega (arith, v .ordered) in
     let near : H ≤ L + 24 = omega (arith, v .near) in
     let small : H ≤ greatestVolume / 10 ^ 8 + 1 = omega (arith, v .ends .most) in

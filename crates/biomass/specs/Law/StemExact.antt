@@ -11,7 +11,7 @@ use Rattle.biomass.specs.Stem.{areaScale, stemEnds}
 use Rattle.biomass.specs.Fraction.{Fraction, whole, _⊕_, _⊖_, _⊗_, _over_, _≼_}
 use Rattle.biomass.specs.Exact.{exactStem}
 use Rattle.biomass.specs.Law.Signed.{parts, diff, same, add, sub, mul, times, le-from, pos-minus}
-use Rattle.biomass.specs.Law.Stem.{base, steep, circle, D, K, enclosing, stem-ends}
+use Rattle.biomass.specs.Law.Stem.{base, steep, circle, denominator, K, enclosing, stem-ends}
 
 -- the exact stem from B, A's numerator a and the area's numerator g
 abbrev stemFraction : (b a g f s : ℕ) → Fraction
@@ -26,7 +26,7 @@ exact-is T d f s T-least = rw (pos-minus {n = 138763302} {b = 10 ^ 9 * T} (omega
 
 -- its numerator is more − less
 abbrev more : (b a g f s : ℕ) → ℕ
-more b a g f s = (b * D + a * g) * f * s
+more b a g f s = (b * denominator + a * g) * f * s
 
 abbrev less : (a f s : ℕ) → ℕ
 less a f s = a * K * f * s
@@ -35,11 +35,11 @@ module _ (b a g f s : ℕ) where
   numerator : stemFraction b a g f s .num ≡ subℕ (more b a g f s) (less a f s)
   numerator =
       let z = sub (parts (pos (g * 1))) (parts (pos K)) in
-      let v = add (parts (pos (b * D))) (times (mul (parts (pos a)) z) 1) in
+      let v = add (parts (pos (b * denominator))) (times (mul (parts (pos a)) z) 1) in
       same (times (times v f) s) (diff (more b a g f s) (less a f s)) (omega arith)
 
   -- a volume l not above V, of which L whole parts give x
-  not-under : (l L x : ℕ) → L * 10 ^ 8 ≤ l → x * 10000 ≤ L * f * s → l * D + a * K ≤ b * D + a * g
+  not-under : (l L x : ℕ) → L * 10 ^ 8 ≤ l → x * 10000 ≤ L * f * s → l * denominator + a * K ≤ b * denominator + a * g
       → whole (pos x) ≼ stemFraction b a g f s
   not-under l L x parts-fit x-fits below =
       let weighed = mul-le-mul-right (f * s) below in
@@ -47,7 +47,7 @@ module _ (b a g f s : ℕ) where
       record { cross = rw numerator (le-from (parts (pos _)) (times (diff (more b a g f s) (less a f s)) 1) (omega arith)) }
 
   -- a volume h not below V, for which H whole parts, enough for h, give x
-  not-over : (h H x : ℕ) → h ≤ H * 10 ^ 8 → H * f * s ≤ x * 10000 → b * D + a * g ≤ h * D + a * K
+  not-over : (h H x : ℕ) → h ≤ H * 10 ^ 8 → H * f * s ≤ x * 10000 → b * denominator + a * g ≤ h * denominator + a * K
       → stemFraction b a g f s ≼ whole (pos x)
   not-over h H x parts-reach x-reaches above =
       let weighed = mul-le-mul-right (f * s) above in
@@ -57,13 +57,13 @@ module _ (b a g f s : ℕ) where
 pub stem-not-under : (T d f s : ℕ) → 1 ≤ T → T ≤ 50 → leastD ≤ d → d ≤ greatestD → whole (stemEnds T d f s .low) ≼ exactStem T d f s
 stem-not-under T d f s T-least T-most d-least d-most =
     let v = enclosing T d (T-least, T-most, d-least, d-most) in
-    let L = v .l / 10 ^ 8 in
+    let L = v .least / 10 ^ 8 in
     rw (stem-ends (v .ends) f s, exact-is T d f s T-least)
-    (not-under (base T) (steep T) (circle d) f s (v .l) L (L * f * s / 10000) (omega arith) (omega arith) (v .not-under))
+    (not-under (base T) (steep T) (circle d) f s (v .least) L (L * f * s / 10000) (omega arith) (omega arith) (v .not-under))
 
 pub stem-not-over : (T d f s : ℕ) → 1 ≤ T → T ≤ 50 → leastD ≤ d → d ≤ greatestD → exactStem T d f s ≼ whole (stemEnds T d f s .high)
 stem-not-over T d f s T-least T-most d-least d-most =
     let v = enclosing T d (T-least, T-most, d-least, d-most) in
-    let H = v .h / 10 ^ 8 + 1 in
+    let H = v .greatest / 10 ^ 8 + 1 in
     rw (stem-ends (v .ends) f s, exact-is T d f s T-least)
-    (not-over (base T) (steep T) (circle d) f s (v .h) H (H * f * s / 10000 + 1) (omega arith) (omega arith) (v .not-over))
+    (not-over (base T) (steep T) (circle d) f s (v .greatest) H (H * f * s / 10000 + 1) (omega arith) (omega arith) (v .not-over))

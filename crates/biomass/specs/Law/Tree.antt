@@ -10,7 +10,7 @@ use Rattle.biomass.specs.Limits.{mostEstimated}
 use Rattle.biomass.specs.Stem.{stem, stemEnds}
 use Rattle.biomass.specs.Crown.{crown, crownEnds}
 use Rattle.biomass.specs.Root.{root, rootEnds}
-use Rattle.biomass.specs.Tree.{treeOf, tree, row, rowHigh, rowOf}
+use Rattle.biomass.specs.Tree.{treeOf, tree, rowBiomass, rowHigh, rowOf}
 use Rattle.biomass.specs.Law.Report.{Inside}
 use Rattle.biomass.specs.Law.Gives.{passed, made}
 use Rattle.biomass.specs.Law.Ends.{Bounded}
@@ -104,8 +104,8 @@ pub record RowGives (N : ℕ) (t : AverageTree) (m : BiomassRange) : Type 0 wher
   pub one-is : tree t ≡ gives one
   pub is : m ≡ rowOf N one
 
-pub row-gives : (N : ℕ) (t : AverageTree) (m : BiomassRange) → row N t ≡ gives m → RowGives N t m
-unfolding row
+pub row-gives : (N : ℕ) (t : AverageTree) (m : BiomassRange) → rowBiomass N t ≡ gives m → RowGives N t m
+unfolding rowBiomass
 row-gives N t m e =
     let number = passed 0 N mostEstimated 6 _ e in
     let on-tree = made (tree t) _ (number .next) in
@@ -136,7 +136,7 @@ of-tree (suc n) one h b =
     let small = rw (eqb·suc-zero n) at (high-small (suc n) one h (b .small)) in
     rw (eqb·suc-zero n) (omega arith)
 
-pub row-bounds : (N : ℕ) (t : AverageTree) (m : BiomassRange) → row N t ≡ gives m → RowBounds N m
+pub row-bounds : (N : ℕ) (t : AverageTree) (m : BiomassRange) → rowBiomass N t ≡ gives m → RowBounds N m
 row-bounds N t m e =
     let g = row-gives N t m e in
     subst (RowBounds N) (sym (g .is)) (of-tree N (g .one) (g .number .most) (tree-bounds t (g .one) (g .one-is)))

@@ -15,7 +15,7 @@ use Rattle.biomass.specs.Report.{Report, refused, gives}
 use Rattle.biomass.specs.Law.Gives.{never, figure-is, test-passed}
 use Rattle.codec.specs.Bytes.{byte, storedAt, AllBytes, numberAt, bytes, signed, unsigned}
 use Rattle.codec.specs.Command.{encode, Fits, FitsFour}
-use Rattle.codec.specs.Reading.{whole, speciesFrom, factorFrom, openFrom, measuredFrom, heightFrom, commandFrom, read}
+use Rattle.codec.specs.Reading.{withOperands, speciesFrom, factorFrom, openFrom, measuredFrom, heightFrom, commandFrom, read}
 use Rattle.codec.specs.Writing.{fitsAt, write, bufferAfter}
 use Rattle.codec.specs.RoundTrip.{ReadsBack, WritesBack}
 use Rattle.codec.specs.Law.Storing.{stands-stored, stored-keeps, length-stored, stored-again, store-fits, store-cases, store-keeps-length}
@@ -48,8 +48,8 @@ pub read-by : (s : List ℕ) (at b : ℕ) → at < length s → byte s at ≡ b 
 unfolding read
 read-by s at b inside e = rw (lt-ltb at (length s) inside, e)
 
-pub whole-gives : (s : List ℕ) (from width : ℕ) (c : Command) → from + width ≤ length s → whole s from width c ≡ gives (c, from + width)
-whole-gives s from width c enough = rw le-leb
+pub with-operands-gives : (s : List ℕ) (from width : ℕ) (c : Command) → from + width ≤ length s → withOperands s from width c ≡ gives (c, from + width)
+with-operands-gives s from width c enough = rw le-leb
 
 signed-of-bytes : (z : ℤ) (s : List ℕ) (i : ℕ) → FitsFour z → Stands (bytes 4 (unsigned z)) s i → signed (numberAt 4 s i) ≡ z
 signed-of-bytes z s i f h = rw (number-of-bytes 4 (unsigned z) (unsigned-fits z f) h) (signed-unsigned z f)
@@ -70,19 +70,19 @@ read-encoded s at (Species id sp) f (before b (before e₁ (before e₂ (before 
     let c₂ = signed-of-bytes (sp .c2) s (at + 1 + 8) (f .1 .c2) (stands-at (stands-second b₁ b₂ two) (omega arith)) in
     let c₃ = signed-of-bytes (sp .c3) s (at + 1 + 12) (f .1 .c3) (stands-at (stands-second (b₁ ++ b₂) b₃ three) (omega arith)) in
     let c₄ = signed-of-bytes (sp .c4) s (at + 1 + 16) (f .1 .c4) (stands-at (stands-second (b₁ ++ b₂ ++ b₃) b₄ h) (omega arith)) in
-    read-by s at 1 (omega arith) b ∙ whole-gives s (at + 1) 20 _ (omega arith) ∙ rw (e₁, e₂, root, gravity, c₁, c₂, c₃, c₄, add-assoc at 1 20)
+    read-by s at 1 (omega arith) b ∙ with-operands-gives s (at + 1) 20 _ (omega arith) ∙ rw (e₁, e₂, root, gravity, c₁, c₂, c₃, c₄, add-assoc at 1 20)
 read-encoded s at (Factor cm factor) f (before b (before e₁ (before e₂ h))) enough =
-    read-by s at 2 (omega arith) b ∙ whole-gives s (at + 1) 2 _ (omega arith) ∙ cc (add-assoc at 1 2)
+    read-by s at 2 (omega arith) b ∙ with-operands-gives s (at + 1) 2 _ (omega arith) ∙ cc (add-assoc at 1 2)
 read-encoded s at (Open stratum species p q) f (before b (before e₁ (before e₂ h))) enough =
     let n₁ : numberAt 4 s (at + 1 + 2) ≡ p = number-of-bytes 4 p (f .2) (stands-at (stands-first (bytes 4 p) (bytes 4 q) h) (omega arith)) in
     let n₂ : numberAt 4 s (at + 1 + 6) ≡ q = number-of-bytes 4 q (f .3) (stands-at (stands-second (bytes 4 p) (bytes 4 q) h) (omega arith)) in
-    read-by s at 3 (omega arith) b ∙ whole-gives s (at + 1) 10 _ (omega arith) ∙ cc (add-assoc at 1 10)
+    read-by s at 3 (omega arith) b ∙ with-operands-gives s (at + 1) 10 _ (omega arith) ∙ cc (add-assoc at 1 10)
 read-encoded s at (Measured class count) f (before b (before e₁ h)) enough =
     let n = number-of-bytes 2 count (f .1) h in
-    read-by s at 4 (omega arith) b ∙ whole-gives s (at + 1) 3 _ (omega arith) ∙ cc (add-assoc at 1 3)
+    read-by s at 4 (omega arith) b ∙ with-operands-gives s (at + 1) 3 _ (omega arith) ∙ cc (add-assoc at 1 3)
 read-encoded s at (Height cm tenths) f (before b (before e₁ h)) enough =
     let n = number-of-bytes 2 tenths (f .1) h in
-    read-by s at 5 (omega arith) b ∙ whole-gives s (at + 1) 3 _ (omega arith) ∙ cc (add-assoc at 1 3)
+    read-by s at 5 (omega arith) b ∙ with-operands-gives s (at + 1) 3 _ (omega arith) ∙ cc (add-assoc at 1 3)
 read-encoded s at Close f (before b h) enough = read-by s at 6 (omega arith) b
 read-encoded s at End f (before b h) enough = read-by s at 7 (omega arith) b
 
@@ -113,9 +113,9 @@ module _ (s : List ℕ) (at next : ℕ) (c : Command) where
       subst (λ (r : Command × ℕ). ReadIsEncoded s at (r .1) (r .0)) (figure-is e)
       (record { fits = f; next-is = after-is; inside = enough; taken = stands-taken (encode d) s at h (omega arith) })
 
-  whole-encoded : (width : ℕ) (d : Command) → Fits d → Stands (encode d) s at → length (encode d) ≡ 1 + width
-      → whole s (at + 1) width d ≡ gives (c, next) → ReadIsEncoded s at next c
-  whole-encoded width d f h l e =
+  with-operands-encoded : (width : ℕ) (d : Command) → Fits d → Stands (encode d) s at → length (encode d) ≡ 1 + width
+      → withOperands s (at + 1) width d ≡ gives (c, next) → ReadIsEncoded s at next c
+  with-operands-encoded width d f h l e =
       let w = test-passed (leb (at + 1 + width) (length s)) 3 (gives (d, at + 1 + width)) e in
       gives-encoded d (at + 1 + width) f h (omega arith) (leb-true (at + 1 + width) (length s) (w .0)) (w .1)
 
@@ -128,7 +128,7 @@ module _ (s : List ℕ) (at next : ℕ) (c : Command) where
         let two = stands-append one (stands-at (signed-stands s (at + 1 + 8) all) (omega arith)) in
         let three = stands-append two (stands-at (signed-stands s (at + 1 + 12) all) (omega arith)) in
         let four = stands-append three (stands-at (signed-stands s (at + 1 + 16) all) (omega arith)) in
-        whole-encoded 20 _ (
+        with-operands-encoded 20 _ (
           all (at + 1),
           record {
             crown = all (at + 1 + 1);
@@ -145,25 +145,25 @@ module _ (s : List ℕ) (at next : ℕ) (c : Command) where
 
     factor-encoded : byte s at ≡ 2 → factorFrom s (at + 1) ≡ gives (c, next) → ReadIsEncoded s at next c
     unfolding factorFrom
-    factor-encoded b e = whole-encoded 2 _ (all (at + 1), all (at + 1 + 1)) (before b (before refl (before refl nothing))) refl e
+    factor-encoded b e = with-operands-encoded 2 _ (all (at + 1), all (at + 1 + 1)) (before b (before refl (before refl nothing))) refl e
 
     open-encoded : byte s at ≡ 3 → openFrom s (at + 1) ≡ gives (c, next) → ReadIsEncoded s at next c
     unfolding openFrom
     open-encoded b e =
         let one = bytes-of-number 4 s (at + 1 + 2) all in
         let two = stands-append one (stands-at (bytes-of-number 4 s (at + 1 + 6) all) (omega arith)) in
-        whole-encoded 10 _ (all (at + 1), all (at + 1 + 1), number-below 4 s (at + 1 + 2) all, number-below 4 s (at + 1 + 6) all)
+        with-operands-encoded 10 _ (all (at + 1), all (at + 1 + 1), number-below 4 s (at + 1 + 2) all, number-below 4 s (at + 1 + 6) all)
         (before b (before refl (before refl (stands-at two (omega arith))))) refl e
 
     measured-encoded : byte s at ≡ 4 → measuredFrom s (at + 1) ≡ gives (c, next) → ReadIsEncoded s at next c
     unfolding measuredFrom
     measured-encoded b e =
-        whole-encoded 3 _ (all (at + 1), number-below 2 s (at + 1 + 1) all) (before b (before refl (bytes-of-number 2 s (at + 1 + 1) all))) refl e
+        with-operands-encoded 3 _ (all (at + 1), number-below 2 s (at + 1 + 1) all) (before b (before refl (bytes-of-number 2 s (at + 1 + 1) all))) refl e
 
     height-encoded : byte s at ≡ 5 → heightFrom s (at + 1) ≡ gives (c, next) → ReadIsEncoded s at next c
     unfolding heightFrom
     height-encoded b e =
-        whole-encoded 3 _ (all (at + 1), number-below 2 s (at + 1 + 1) all) (before b (before refl (bytes-of-number 2 s (at + 1 + 1) all))) refl e
+        with-operands-encoded 3 _ (all (at + 1), number-below 2 s (at + 1 + 1) all) (before b (before refl (bytes-of-number 2 s (at + 1 + 1) all))) refl e
 
 -- by the command's byte
 pub read-is-encoded : (s : List ℕ) (at next : ℕ) (c : Command) → AllBytes s → read s at ≡ gives (c, next) → ReadIsEncoded s at next c
@@ -187,8 +187,8 @@ module _ (s : List ℕ) (at : ℕ) (c : Command) (next : ℕ) where
       → (at < next) × (next ≤ length s)
   gives-moves d after past inside e = subst (λ (r : Command × ℕ). (at < r .1) × (r .1 ≤ length s)) (figure-is e) (past, inside)
 
-  whole-moves : (width : ℕ) (d : Command) → whole s (at + 1) width d ≡ gives (c, next) → (at < next) × (next ≤ length s)
-  whole-moves width d e =
+  with-operands-moves : (width : ℕ) (d : Command) → withOperands s (at + 1) width d ≡ gives (c, next) → (at < next) × (next ≤ length s)
+  with-operands-moves width d e =
       let w = test-passed (leb (at + 1 + width) (length s)) 3 (gives (d, at + 1 + width)) e in
       gives-moves d (at + 1 + width) (omega arith) (leb-true (at + 1 + width) (length s) (w .0)) (w .1)
 
@@ -198,11 +198,11 @@ module _ (s : List ℕ) (at : ℕ) (c : Command) (next : ℕ) where
       let b = byte s at in
       let start = test-passed (ltb at (length s)) 1 (commandFrom b s (at + 1)) e in
       let one : at + 1 ≤ length s = omega (arith, ltb-true at (length s) (start .0)) in
-      by-byte b 1 _ _ (start .1) (λ is. whole-moves 20 _) λ e.
-      by-byte b 2 _ _ e (λ is. whole-moves 2 _) λ e.
-      by-byte b 3 _ _ e (λ is. whole-moves 10 _) λ e.
-      by-byte b 4 _ _ e (λ is. whole-moves 3 _) λ e.
-      by-byte b 5 _ _ e (λ is. whole-moves 3 _) λ e.
+      by-byte b 1 _ _ (start .1) (λ is. with-operands-moves 20 _) λ e.
+      by-byte b 2 _ _ e (λ is. with-operands-moves 2 _) λ e.
+      by-byte b 3 _ _ e (λ is. with-operands-moves 10 _) λ e.
+      by-byte b 4 _ _ e (λ is. with-operands-moves 3 _) λ e.
+      by-byte b 5 _ _ e (λ is. with-operands-moves 3 _) λ e.
       by-byte b 6 _ _ e (λ is. gives-moves Close (at + 1) (omega arith) one) λ e.
       by-byte b 7 _ _ e (λ is. gives-moves End (at + 1) (omega arith) one) never
 

@@ -6,7 +6,7 @@ use lib.Dec.{lit<}
 use borrow.Author.Tests.{le-leb, lt-leb}
 use Rattle.powers.specs.Diameter.{leastD, crownLimit}
 use Rattle.powers.specs.Crown.{crownExponent, crownDegree, crownShift, w, tabled}
-use Rattle.powers.specs.Law.Scaled.{near, tested, root-tested}
+use Rattle.powers.specs.Law.Scaled.{near, tested, whole-root-tested}
 
 -- The bounds of 10 ^ crownShift are arguments, so that they are computed once for a list
 abbrev pub testedW : ℕ → ℕ → Bool
@@ -14,7 +14,7 @@ testedW = tested 15 crownDegree crownExponent (near 15 0 10 crownShift) (near 15
 
 pub w-is : (d x : ℕ) → testedW d x ≡ true → w d ≡ x
 unfolding w
-w-is = root-tested 15 crownDegree crownShift crownExponent (lit< tt) (lit< tt) (lit< tt) (lit< tt)
+w-is = whole-root-tested 15 crownDegree crownShift crownExponent (lit< tt) (lit< tt) (lit< tt) (lit< tt)
 
 -- the table on the curve, below it and above it
 pub tabled-is-w : {x d : ℕ} → x ≡ tabled d → leastD ≤ d → d ≤ crownLimit → x ≡ w d

@@ -54,14 +54,14 @@ le-pow-self (suc r) zero h = absurd (not-suc-le-zero h)
 le-pow-self (suc r) (suc k) h = rw pow-succ' (le-mul-of-pos-right (suc r) (one-le-pow k (suc r) (suc-le-suc zero-le)))
 
 -- a number whose power is not above x is not above the root
-pub le-root : (k x n : ℕ) → 0 < k → n ^ k ≤ x → n ≤ wholeRoot k x
+pub le-whole-root : (k x n : ℕ) → 0 < k → n ^ k ≤ x → n ≤ wholeRoot k x
 unfolding wholeRoot
-le-root k x n h le = le-greatest (λ r. leb (r ^ k) x) x n (le-trans (le-pow-self n k h) le) (le-leb (n ^ k) x le)
+le-whole-root k x n h le = le-greatest (λ r. leb (r ^ k) x) x n (le-trans (le-pow-self n k h) le) (le-leb (n ^ k) x le)
 
 -- the root is the r between whose power and the next one's x lies
-pub root-is : (k x r : ℕ) → 0 < k → r ^ k ≤ x → x < (r + 1) ^ k → wholeRoot k x ≡ r
+pub whole-root-is : (k x r : ℕ) → 0 < k → r ^ k ≤ x → x < (r + 1) ^ k → wholeRoot k x ≡ r
 unfolding wholeRoot
-root-is k x r h le lt =
+whole-root-is k x r h le lt =
     greatest-is (λ n. leb (n ^ k) x) x r (le-trans (le-pow-self r k h) le) (le-leb (r ^ k) x le)
     (λ n above up. lt-leb (n ^ k) x (lt-of-lt-of-le lt (pow-le-pow-left (omega arith) k)))
 
@@ -70,7 +70,7 @@ pow-two n = rw (pow-suc n 1, pow-suc n 0, pow-zero, one-mul)
 
 -- the square root, between two squares
 pub square-root-is : (x r : ℕ) → r * r ≤ x → x < (r + 1) * (r + 1) → wholeRoot 2 x ≡ r
-square-root-is x r le lt = root-is 2 x r (lit< tt) (rw pow-two le) (rw pow-two lt)
+square-root-is x r le lt = whole-root-is 2 x r (lit< tt) (rw pow-two le) (rw pow-two lt)
 
 -- so that 0 passes the root's test
 zero-pow-le : {x : ℕ} (k : ℕ) → 0 < k → 0 ^ k ≤ x
@@ -78,13 +78,13 @@ zero-pow-le zero h = absurd (not-suc-le-zero h)
 zero-pow-le (suc k) h = rw (pow-suc, mul-zero) zero-le
 
 -- and the root does lie so
-pub root-not-above : (k x : ℕ) → 0 < k → wholeRoot k x ^ k ≤ x
+pub whole-root-not-above : (k x : ℕ) → 0 < k → wholeRoot k x ^ k ≤ x
 unfolding wholeRoot
-root-not-above k x h = leb-true (wholeRoot k x ^ k) x (greatest-passes (λ r. leb (r ^ k) x) x (le-leb (0 ^ k) x (zero-pow-le k h)))
+whole-root-not-above k x h = leb-true (wholeRoot k x ^ k) x (greatest-passes (λ r. leb (r ^ k) x) x (le-leb (0 ^ k) x (zero-pow-le k h)))
 
-pub root-below : (k x : ℕ) → 0 < k → x < (wholeRoot k x + 1) ^ k
-root-below k x h = lt-of-not-le (λ le. let up : wholeRoot k x + 1 ≤ wholeRoot k x = le-root k x (wholeRoot k x + 1) h le in omega arith)
+pub whole-root-below : (k x : ℕ) → 0 < k → x < (wholeRoot k x + 1) ^ k
+whole-root-below k x h = lt-of-not-le (λ le. let up : wholeRoot k x + 1 ≤ wholeRoot k x = le-whole-root k x (wholeRoot k x + 1) h le in omega arith)
 
 -- a greater number's root is no lesser
-pub root-mono : {x y : ℕ} (k : ℕ) → 0 < k → x ≤ y → wholeRoot k x ≤ wholeRoot k y
-root-mono {x} {y} k h le = le-root k y (wholeRoot k x) h (le-trans (root-not-above k x h) le)
+pub whole-root-rises : {x y : ℕ} (k : ℕ) → 0 < k → x ≤ y → wholeRoot k x ≤ wholeRoot k y
+whole-root-rises {x} {y} k h le = le-whole-root k y (wholeRoot k x) h (le-trans (whole-root-not-above k x h) le)

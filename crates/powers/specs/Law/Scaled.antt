@@ -11,7 +11,7 @@ use lib.Dec.{leb, ltb}
 use lib.Pow.{pow-add, pow-pos}
 use borrow.Author.Tests.{ltb-true}
 use Rattle.powers.specs.Greatest.{wholeRoot}
-use Rattle.powers.specs.Law.Greatest.{root-is}
+use Rattle.powers.specs.Law.Greatest.{whole-root-is}
 
 -- ---- scaled numbers
 
@@ -150,11 +150,11 @@ module _ (bits : ℕ) where
   near-not-below n k h = rw mul-one at (raised-side 1 upward bits (scaled n 0) k h)
 
   -- what passes the test is the root
-  pub root-tested : (m c e : ℕ) → 0 < m → m < 2 ^ bits → c < 2 ^ bits → e < 2 ^ bits → (d x : ℕ)
+  pub whole-root-tested : (m c e : ℕ) → 0 < m → m < 2 ^ bits → c < 2 ^ bits → e < 2 ^ bits → (d x : ℕ)
       → tested bits m e (near bits 0 10 c) (near bits 1 10 c) d x ≡ true → wholeRoot m (10 ^ c * d ^ e) ≡ x
   unfolding tested
-  root-tested m c e positive hm hc he d x t =
-      root-is m (10 ^ c * d ^ e) x positive
+  whole-root-tested m c e positive hm hc he d x t =
+      whole-root-is m (10 ^ c * d ^ e) x positive
       (le-trans (near-not-below x m hm) (le-trans (le-of-lt (below-lt (near bits 1 x m) low (tests .0))) low-not-above))
       (lt-of-le-of-lt high-not-below (lt-of-lt-of-le (below-lt high (near bits 0 (x + 1) m) (tests .1)) (near-not-above (x + 1) m hm)))
     where

@@ -13,7 +13,7 @@ use Rattle.biomass.specs.Limits.{mostMeasured, mostHeights, mostEstimated}
 use Rattle.biomass.specs.Tariff.{lineTariff}
 use Rattle.biomass.specs.Mean.{mean}
 use Rattle.biomass.specs.Trees.{trees}
-use Rattle.biomass.specs.Tree.{treeOf, row, rowOf}
+use Rattle.biomass.specs.Tree.{treeOf, rowBiomass, rowOf}
 use Rattle.biomass.specs.Law.Report.{Inside, inside-true}
 use Rattle.biomass.specs.Law.Tariff.{single-tariff-range, line-tariff-range}
 use Rattle.biomass.specs.Law.Mean.{mean-range}
@@ -23,7 +23,7 @@ use Rattle.line.specs.Line.{tallied, tariffOf, T-of, d-of, N-of, wholeCm, noTre
 use Rattle.survey.specs.Survey.{mostLines, withRow, measure, giveHeight, f-of, treeAt, someTrees, estimate, closingRow, close}
 use Rattle.survey.specs.AsWritten.{asWritten}
 use Rattle.survey.specs.Apply.{applyMeasured, applyHeight, keeping, applyClose, apply}
-use Rattle.line.specs.AnyLine.{mostSquares, mostTariffs, measured, height, worked, lineRow}
+use Rattle.line.specs.AnyLine.{mostSquares, mostTariffs, addTrees, addHeight, worked, lineRow}
 use Rattle.survey.specs.Valid.{ValidSpecies, ValidTally, ValidHeights, Valid}
 use Rattle.survey.specs.Law.Checks.{when-same, unless-same, when-then, unless-then, cond-then, then-then, passed-then, answered-then}
 use Rattle.codec.specs.declared.command.Command.{Command}
@@ -50,9 +50,9 @@ squares-stay class count s v is-open in-class few =
     le-leb _ _ fit
 
 -- each height tree adds from 1 to 50 to the tariffs
-pub height-added : (h : Heights) (T : ℕ) → ValidHeights h → Inside 1 T 50 → h .number < mostHeights
+pub heights-valid : (h : Heights) (T : ℕ) → ValidHeights h → Inside 1 T 50 → h .number < mostHeights
     → ValidHeights (record { number = h .number + 1; tariffs = h .tariffs + T })
-height-added h T before T-range room = record { few = omega arith; tariffs = omega (arith, before .tariffs) }
+heights-valid h T before T-range room = record { few = omega arith; tariffs = omega (arith, before .tariffs) }
 
 tariffs-stay : (cm tenths T : ℕ) (s : Survey) → Valid s → s .active ≡ true → tariffOf (s .line .species) cm tenths ≡ gives T
     → leb mostHeights (s .line .heights .number) ≡ false → leb (s .line .heights .tariffs + T) mostTariffs ≡ true
@@ -60,7 +60,7 @@ tariffs-stay cm tenths T s v is-open gave below =
     let c = s .line .species in
     let h = s .line .heights in
     let T-range = single-tariff-range (c .c1) (c .c2) (c .c3) (c .c4) cm tenths T gave in
-    let after = height-added h T (v .line is-open .heights) T-range (leb-false mostHeights (h .number) below) in
+    let after = heights-valid h T (v .line is-open .heights) T-range (leb-false mostHeights (h .number) below) in
     let fit : h .tariffs + T ≤ mostTariffs = omega (arith, after .few, after .tariffs) in
     le-leb _ _ fit
 
@@ -128,7 +128,7 @@ module _ (s : Survey) (v : Valid s) (is-open : s .active ≡ true) (some : eqb (
         line-tariff-answers (s .line .heights .tariffs) (s .line .heights .number)
         (record { least = not-zero (s .line .heights .number) heights; most = vl .heights .few }) (vl .heights .tariffs)
 
-    row-known : eqb (f-of s) 0 ≡ false → leb (N-of (s .line)) mostEstimated ≡ true → row (N-of (s .line)) (treeAt s) ≡ gives (rowOf (N-of (s .line)) (treeOf (treeAt s)))
+    row-known : eqb (f-of s) 0 ≡ false → leb (N-of (s .line)) mostEstimated ≡ true → rowBiomass (N-of (s .line)) (treeAt s) ≡ gives (rowOf (N-of (s .line)) (treeOf (treeAt s)))
     row-known given small =
         row-answers (N-of (s .line)) (treeAt s) (record { least = zero-le; most = leb-true _ _ small })
         (line-operands s v is-open (n-range .least) (not-zero (s .line .heights .number) heights) (not-zero (f-of s) given))
@@ -164,7 +164,7 @@ ruleset text = (
 )
 
 pub as-written : (c : Command) (s : Survey) → Valid s → apply c s ≡ asWritten c s
-unfolding applyMeasured measured measure applyHeight height giveHeight applyClose lineRow worked close
+unfolding applyMeasured addTrees measure applyHeight addHeight giveHeight applyClose lineRow worked close
 as-written (Command.Species id species) s v = refl
 as-written (Command.Factor cm factor) s v = refl
 as-written (Command.Open stratum species p q) s v = refl

@@ -11,11 +11,11 @@ use borrow.Author.Tests.{leb-false}
 use Rattle.biomass.specs.Whole.{inside}
 use Rattle.biomass.specs.Report.{Report, refused, gives, _then_, when}
 use Rattle.biomass.specs.Law.Report.{inside-true}
-use Rattle.line.specs.Line.{begun}
-use Rattle.survey.specs.Survey.{speciesAt, withState, withLine, speciesInRange, declaredAs, declaring, declare, giveFactor, opened, opening, openLine, finish}
+use Rattle.line.specs.Line.{newLine}
+use Rattle.survey.specs.Survey.{speciesAt, withState, withLine, speciesInRange, declaredAs, declaring, declare, giveFactor, opened, opening, openLine, end}
 use Rattle.survey.specs.Apply.{onOpen, onLine, applyMeasured, applyHeight, applyClose, apply}
-use Rattle.line.specs.AnyLine.{measured, height}
-use Rattle.survey.specs.Change.{changed, HasPlace, told, named, seenOf, opens, notes, changeOf, decided, own, notOwn, ownOf}
+use Rattle.line.specs.AnyLine.{addTrees, addHeight}
+use Rattle.survey.specs.Change.{changed, HasPlace, decision, named, seenOf, opens, updates, changeOf, decided, own, notOwn, ownOf}
 use Rattle.survey.specs.Law.Checks.{Gives, when-such, passed, when-then, unless-then, then-then, species-in-range}
 use Rattle.codec.specs.declared.command.Species.{Species}
 use Rattle.codec.specs.declared.command.Command.{Command}
@@ -34,8 +34,8 @@ module _ (s : Survey) where
   make k = changed k s
 
   -- of a command of the open line, which stays open
-  line-made : (after : Report Line) → notes (s .active) after then make ≡ onOpen (s .active) after λ l. gives (withLine s l)
-  line-made after =
+  line-after : (after : Report Line) → updates (s .active) after then make ≡ onOpen (s .active) after λ l. gives (withLine s l)
+  line-after after =
       unless-then make (s .active) 10 _ _ (λ is-open.
       then-then make after _ _ (λ l gave. ap (λ (b : Bool). gives (withState s b l (s .ended))) (sym is-open)))
 
@@ -44,19 +44,19 @@ module _ (s : Survey) where
   after c = changeOf c (seenOf (speciesAt s (named c .species)) (opened (named c .stratum) (named c .species) s) s) (s .line) (s .factors) then make
 
   -- and so of every command
-  made : (c : Command) → apply c s ≡ when (s .ended) 5 (after c)
-  unfolding declare giveFactor openLine applyMeasured applyHeight applyClose finish
-  made (Command.Species id species) = ap (when (s .ended) 5) (sym (search thens depth 12))
-  made (Command.Factor cm factor) = ap (when (s .ended) 5) (sym (search thens depth 12))
-  made (Command.Open stratum id p q) = ap (when (s .ended) 5) (sym (search thens depth 12))
-  made (Command.Measured class count) = ap (when (s .ended) 5) (sym (line-made (measured class count (s .line))))
-  made (Command.Height cm tenths) = ap (when (s .ended) 5) (sym (line-made (height cm tenths (s .line))))
-  made Command.Close = ap (when (s .ended) 5) (sym (search thens depth 12))
-  made Command.End = ap (when (s .ended) 5) (sym (search thens depth 12))
+  as-after : (c : Command) → apply c s ≡ when (s .ended) 5 (after c)
+  unfolding declare giveFactor openLine applyMeasured applyHeight applyClose end
+  as-after (Command.Species id species) = ap (when (s .ended) 5) (sym (search thens depth 12))
+  as-after (Command.Factor cm factor) = ap (when (s .ended) 5) (sym (search thens depth 12))
+  as-after (Command.Open stratum id p q) = ap (when (s .ended) 5) (sym (search thens depth 12))
+  as-after (Command.Measured class count) = ap (when (s .ended) 5) (sym (line-after (addTrees class count (s .line))))
+  as-after (Command.Height cm tenths) = ap (when (s .ended) 5) (sym (line-after (addHeight cm tenths (s .line))))
+  as-after Command.Close = ap (when (s .ended) 5) (sym (search thens depth 12))
+  as-after Command.End = ap (when (s .ended) 5) (sym (search thens depth 12))
 
 -- "5 the book has ended, first of all."
 pub ended-refuses : (c : Command) (s : Survey) → s .ended ≡ true → apply c s ≡ refused 5
-ended-refuses c s is-ended = made s c ∙ ap (λ (b : Bool). when b 5 (after s c)) is-ended
+ended-refuses c s is-ended = as-after s c ∙ ap (λ (b : Bool). when b 5 (after s c)) is-ended
 
 -- ---- what is seen is enough
 
@@ -70,15 +70,15 @@ declared-seen id x y same = by-place (inside 0 id 15) refl
 
 -- so a line is opened with what stands there, or not at all
 opening-seen : (stratum id p q : ℕ) (is-open before : Bool) (closed : ℕ) (x y : Species) → (id < 16 → x ≡ y)
-    → opening p q is-open (declaredAs id x) before closed (gives (Change.Line (begun stratum id x p q)))
-    ≡ opening p q is-open (declaredAs id y) before closed (gives (Change.Line (begun stratum id y p q)))
+    → opening p q is-open (declaredAs id x) before closed (gives (Change.Line (newLine stratum id x p q)))
+    ≡ opening p q is-open (declaredAs id y) before closed (gives (Change.Line (newLine stratum id y p q)))
 opening-seen stratum id p q is-open before closed x y same = by-place (inside 0 id 15) refl
   where
     by-place : (b : Bool) → inside 0 id 15 ≡ b
-        → opening p q is-open (cond b (ltb 0 (x .gravity)) false) before closed (gives (Change.Line (begun stratum id x p q)))
-        ≡ opening p q is-open (cond b (ltb 0 (y .gravity)) false) before closed (gives (Change.Line (begun stratum id y p q)))
+        → opening p q is-open (cond b (ltb 0 (x .gravity)) false) before closed (gives (Change.Line (newLine stratum id x p q)))
+        ≡ opening p q is-open (cond b (ltb 0 (y .gravity)) false) before closed (gives (Change.Line (newLine stratum id y p q)))
     by-place true e =
-        ap (λ (z : Species). opening p q is-open (ltb 0 (z .gravity)) before closed (gives (Change.Line (begun stratum id z p q))))
+        ap (λ (z : Species). opening p q is-open (ltb 0 (z .gravity)) before closed (gives (Change.Line (newLine stratum id z p q))))
         (same (suc-le-suc (inside-true 0 id 15 e .most)))
     by-place false e = refl
 
@@ -120,11 +120,11 @@ has-place Command.End s there before l factors = search places depth 12
 -- ---- what the code decides
 
 -- the change is what applying the command makes of the survey, and has its place there
-pub record Made (c : Command) (s : Survey) (change : Change) : Type 0 where
+pub record ChangeMade (c : Command) (s : Survey) (change : Change) : Type 0 where
   pub place : HasPlace change s
   pub is : apply c s ≡ changed change s
 
-told-place : (k : Change) (s : Survey) {r : Report Change} → told k ≡ r → Gives (λ x. HasPlace x s) r → HasPlace k s
+told-place : (k : Change) (s : Survey) {r : Report Change} → decision k ≡ r → Gives (λ x. HasPlace x s) r → HasPlace k s
 told-place (Change.Species id species) s e h = h _ (sym e)
 told-place (Change.Factor cm factor) s e h = h _ (sym e)
 told-place (Change.Line l) s e h = tt
@@ -132,7 +132,7 @@ told-place (Change.Row r) s e h = h _ (sym e)
 told-place Change.End s e h = tt
 told-place (Change.Refused why) s e h = tt
 
-told-makes : (k : Change) (s : Survey) → (told k then λ x. changed x s) ≡ changed k s
+told-makes : (k : Change) (s : Survey) → (decision k then λ x. changed x s) ≡ changed k s
 told-makes (Change.Species id species) s = refl
 told-makes (Change.Factor cm factor) s = refl
 told-makes (Change.Line l) s = refl
@@ -150,7 +150,7 @@ Before name before s = name .line ≡ true → opened (name .stratum) (name .spe
 
 -- so what the code decides, on what it sees of any survey, is what the command makes of the survey
 pub decides : (c : Command) (s : Survey) (name : Named) (before : Bool) (change : Change) → name ≡ named c → Before name before s
-    → told change ≡ decided c (seenOf (speciesAt s (name .species % 16)) before s) (s .line) (s .factors) → Made c s change
+    → decision change ≡ decided c (seenOf (speciesAt s (name .species % 16)) before s) (s .line) (s .factors) → ChangeMade c s change
 decides c s name before change is-named is-before e =
     let there : Named → Species = λ n. speciesAt s (n .species % 16) in
     let seen = subst (λ (n : Named). Before n before s) is-named is-before in
@@ -159,7 +159,7 @@ decides c s name before change is-named is-before e =
     record {
       place = told-place change s e (when-such such (s .ended) 5 _ (λ not-ended. has-place c s (there name) before (s .line) (s .factors)));
       is =
-          made s c ∙ ap (λ (r : Report Change). when (s .ended) 5 (r then make s))
+          as-after s c ∙ ap (λ (r : Report Change). when (s .ended) 5 (r then make s))
           (seen-enough c s (there (named c)) _ before (s .line) (s .factors) (in-place s (named c .species)) seen)
           ∙ sym (when-then (make s) (s .ended) 5 _ _ (λ not-ended. refl)) ∙ ap (λ (r : Report Change). r then make s) (sym is-told)
           ∙ told-makes change s;

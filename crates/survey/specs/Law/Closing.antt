@@ -8,7 +8,7 @@ use lib.Dec.{leb, eqb}
 use borrow.Author.Tests.{leb-true}
 use Rattle.biomass.specs.Report.{gives}
 use Rattle.biomass.specs.Limits.{mostEstimated}
-use Rattle.biomass.specs.Tree.{treeOf, row, rowOf}
+use Rattle.biomass.specs.Tree.{treeOf, rowBiomass, rowOf}
 use Rattle.biomass.specs.Law.Tree.{row-bounds}
 use Rattle.biomass.specs.Law.Answers.{row-answers}
 use Rattle.line.specs.Line.{N-of, Estimate, estimatedRow}
@@ -24,7 +24,7 @@ use Rattle.survey.specs.declared.survey.Survey.{Survey}
 -- what is estimated of a line that closes
 pub record Worked (l : Line) (e : Estimate) : Type 0 where
   pub within : Within (estimatedRow l e)
-  pub answered : 0 < e .N → row (e .N) (e .tree) ≡ gives (rowOf (e .N) (treeOf (e .tree)))
+  pub answered : 0 < e .N → rowBiomass (e .N) (e .tree) ≡ gives (rowOf (e .N) (treeOf (e .tree)))
 
 -- closing leaves the line's row after those that stand
 pub record ClosesTo (s t : Survey) : Type 0 where

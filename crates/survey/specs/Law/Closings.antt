@@ -8,7 +8,7 @@ use mathlib.Core.Path.{_≡_, _∙_, refl, sym, ap}
 use mathlib.Core.List.{List, [], _∷_, _++_, map, map-append, append-assoc, append-nil}
 use lib.Seq.{take-suc-set}
 use Rattle.biomass.specs.Report.{Report, refused, gives}
-use Rattle.survey.specs.Book.{encodeAll, Reach, reach}
+use Rattle.survey.specs.Reader.{encodeAll, Reach, reach}
 use Rattle.survey.specs.Survey.{leaves, fresh, estimate, closingRow}
 use Rattle.survey.specs.AsWritten.{asWritten}
 use Rattle.survey.specs.Closings.{closing, ifTaken, closings, closingsOf}

@@ -24,8 +24,8 @@ use Rattle.survey.specs.Closings.{closingsOf}
 use Rattle.survey.specs.Valid.{Within, Valid}
 use Rattle.survey.specs.Playing.{Played, ended, stopped, playBy, play}
 use Rattle.survey.specs.Sheet.{rowsOf}
-use Rattle.survey.specs.Total.{sumOf, treesOf, lowOf, highOf, totalled, totalOf, answerOf, total}
-use Rattle.survey.specs.Demand3.{linesOf, added, Each, Fractions, exactSum, exactTotal, Demand3, Demanded}
+use Rattle.survey.specs.Total.{sumOf, rowTrees, lowOf, highOf, totalled, totalOf, answerOf, total}
+use Rattle.survey.specs.Demand3.{linesOf, treesAdded, Each, Fractions, exactSum, exactTotal, Demand3, Demanded}
 use Rattle.survey.specs.Law.Sheet.{rows-at-most}
 use Rattle.survey.specs.Law.Sums.{RowsSmall, sums-small}
 use Rattle.survey.specs.Law.Playing.{play-valid, play-as-written}
@@ -52,8 +52,8 @@ rows-small s v = within-small (s .closed) (s .rows) (v .rows)
 
 -- of closed rows, the two sums are at most 54 mg for each tree and 2 mg for each row apart, and the high one is 0 where no line has trees
 record SumsNear (rows : List Row) : Type 0 where
-  near : 100 * sumOf highOf rows ≤ 100 * sumOf lowOf rows + 54 * sumOf treesOf rows + 200 * length rows
-  high-of-none : sumOf treesOf rows ≡ 0 → sumOf highOf rows ≡ 0
+  near : 100 * sumOf highOf rows ≤ 100 * sumOf lowOf rows + 54 * sumOf rowTrees rows + 200 * length rows
+  high-of-none : sumOf rowTrees rows ≡ 0 → sumOf highOf rows ≡ 0
 
 sums-near : {ss : List Survey} → AllClosed ss → SumsNear (map closingRow ss)
 unfolding sumOf closingRow
@@ -64,20 +64,20 @@ sums-near (and-lines s ss w c) =
     record { near = omega arith; high-of-none = λ none. omega (arith, b .high-of-none (omega arith), rest .high-of-none (omega arith)) }
 
 -- "the N of all lines added" is that of the rows added
-added-is : {ss : List Survey} → AllClosed ss → added (map estimate ss) ≡ sumOf treesOf (map closingRow ss)
-unfolding sumOf added closingRow
+added-is : {ss : List Survey} → AllClosed ss → treesAdded (map estimate ss) ≡ sumOf rowTrees (map closingRow ss)
+unfolding sumOf treesAdded closingRow
 added-is no-line = refl
 added-is (and-lines s ss w c) = ap (λ (n : ℕ). estimate s .N + n) (added-is c)
 
 -- ---- "they are equal exactly when every N is 0", and "the high is at most the low + 3 + (the N of all lines added) div 1000"
 
-none-added : {i : ℕ} {ls : List Estimate} → Each (λ i l. l .N ≡ 0) i ls → added ls ≡ 0
-unfolding added
+none-added : {i : ℕ} {ls : List Estimate} → Each (λ i l. l .N ≡ 0) i ls → treesAdded ls ≡ 0
+unfolding treesAdded
 none-added (Each.none i) = refl
 none-added (Each.more i l ls h each) = omega (arith, none-added each)
 
-each-none : (i : ℕ) (ls : List Estimate) → added ls ≡ 0 → Each (λ i l. l .N ≡ 0) i ls
-unfolding added
+each-none : (i : ℕ) (ls : List Estimate) → treesAdded ls ≡ 0 → Each (λ i l. l .N ≡ 0) i ls
+unfolding treesAdded
 each-none i [] h = Each.none i
 each-none i (l ∷ ls) h = Each.more i l ls (omega arith) (each-none (suc i) ls (omega arith))
 
@@ -169,7 +169,7 @@ demand3 ss closed small number =
     let rows = map closingRow ss in
     let L = sumOf lowOf rows in
     let H = sumOf highOf rows in
-    let N = sumOf treesOf rows in
+    let N = sumOf rowTrees rows in
     let b = sums-near closed in
     let ordered : L ≤ H = sums-small rows small .2 in
     let is = added-is closed in
@@ -199,7 +199,7 @@ module _ (book : List ℕ) (s : Survey) (accepted : play book ≡ ended s) where
       rw are (demand3 (closingsOf book) (all-lines-closed book) small number)
 
   -- and "the N of all lines added", which comes back, is that of these lines
-  pub trees-are : totalOf (rowsOf s) .trees ≡ added (linesOf book)
+  pub trees-are : totalOf (rowsOf s) .trees ≡ treesAdded (linesOf book)
   unfolding linesOf totalOf
   trees-are = rw (rows-are book s by-text) (sym (added-is (all-lines-closed book)))
 

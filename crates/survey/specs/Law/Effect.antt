@@ -14,14 +14,14 @@ use Rattle.biomass.specs.Limits.{mostMeasured, mostHeights, greatestArea}
 use Rattle.biomass.specs.Law.Report.{Inside, inside-true, both-true}
 use Rattle.biomass.specs.Law.Tariff.{single-tariff-range}
 use Rattle.codec.specs.Command.{Fits}
-use Rattle.line.specs.Line.{lineWith, begun, withTrees, withHeight, tariffOf, factorAt}
-use Rattle.survey.specs.Survey.{mostLines, speciesAt, withState, withSpecies, withFactor, withOpened, withLine, withRow, withEnd, speciesInRange, declared, declare, giveFactor, opened, areasInRange, openLine, finish}
+use Rattle.line.specs.Line.{lineWith, newLine, withTrees, withHeight, tariffOf, factorAt}
+use Rattle.survey.specs.Survey.{mostLines, speciesAt, withState, withSpecies, withFactor, withOpened, withLine, withRow, withEnd, speciesInRange, declared, declare, giveFactor, opened, areasInRange, openLine, end}
 use Rattle.survey.specs.Closings.{closing}
 use Rattle.survey.specs.Apply.{onLine, applyMeasured, applyHeight, applyClose, apply}
-use Rattle.line.specs.AnyLine.{measured, height}
+use Rattle.line.specs.AnyLine.{addTrees, addHeight}
 use Rattle.survey.specs.Valid.{ValidSpecies, ValidTally, ValidHeights, ValidLine, Valid}
 use Rattle.survey.specs.Law.Checks.{Gives, gives-such, when-such, unless-such, then-such, passed, species-in-range}
-use Rattle.survey.specs.Law.AsWritten.{tallied-valid, height-added}
+use Rattle.survey.specs.Law.AsWritten.{tallied-valid, heights-valid}
 use Rattle.codec.specs.declared.command.Species.{Species}
 use Rattle.codec.specs.declared.command.Command.{Command}
 use Rattle.line.specs.declared.row.Row.{Row}
@@ -72,10 +72,10 @@ module _ {c : Command} (s : Survey) where
 
   -- a line is opened, and its stratum is a byte of the command
   line-opened : (stratum id p q : ℕ) → (Fits c → stratum < 256) → s .ended ≡ false → areasInRange p q ≡ true → s .active ≡ false → declared id s ≡ true
-      → opened stratum id s ≡ false → leb mostLines (s .closed) ≡ false → Effect c s (withOpened s (begun stratum id (speciesAt s id) p q)) []
+      → opened stratum id s ≡ false → leb mostLines (s .closed) ≡ false → Effect c s (withOpened s (newLine stratum id (speciesAt s id) p q)) []
   line-opened stratum id p q byte not-ended in-range none-open is-declared first room =
       let areas = both-true (inside 1 p greatestArea) (inside 1 q greatestArea) in-range in
-      the-line {l = begun stratum id (speciesAt s id) p q} (record {
+      the-line {l = newLine stratum id (speciesAt s id) p q} (record {
         room = λ v is-open. leb-false mostLines (s .closed) room;
         line = λ v is-open.
             record {
@@ -114,21 +114,21 @@ module _ {c : Command} (s : Survey) where
         changed = λ same. changed (ap (λ (x : Survey). x .line) same);
       })
 
-  trees-noted : (class count : ℕ) → inside 7 class 100 ≡ true → leb 1 count ≡ true → leb (s .line .tally .n + count) mostMeasured ≡ true
+  trees-added : (class count : ℕ) → inside 7 class 100 ≡ true → leb 1 count ≡ true → leb (s .line .tally .n + count) mostMeasured ≡ true
       → Effect c s (withLine s (withTrees class count (s .line))) []
-  trees-noted class count in-class some few =
+  trees-added class count in-class some few =
       line-noted _ _
       (λ before. tallied-valid (s .line .tally) class count before (inside-true 7 class 100 in-class) (leb-true (s .line .tally .n + count) mostMeasured few))
       (λ before. before)
       (λ same. let none : s .line .tally .n + count ≡ s .line .tally .n = ap (λ (l : Line). l .tally .n) same in omega (arith, leb-true 1 count some))
 
-  height-noted : (cm tenths T : ℕ) → tariffOf (s .line .species) cm tenths ≡ gives T → leb mostHeights (s .line .heights .number) ≡ false
+  height-added : (cm tenths T : ℕ) → tariffOf (s .line .species) cm tenths ≡ gives T → leb mostHeights (s .line .heights .number) ≡ false
       → Effect c s (withLine s (withHeight T (s .line))) []
-  height-noted cm tenths T gave room =
+  height-added cm tenths T gave room =
       let x = s .line .species in
       let in-range = single-tariff-range (x .c1) (x .c2) (x .c3) (x .c4) cm tenths T gave in
       line-noted _ _ (λ before. before)
-      (λ before. height-added (s .line .heights) T before in-range (leb-false mostHeights (s .line .heights .number) room))
+      (λ before. heights-valid (s .line .heights) T before in-range (leb-false mostHeights (s .line .heights .number) room))
       (λ same. let none : s .line .heights .number + 1 ≡ s .line .heights .number = ap (λ (l : Line). l .heights .number) same in omega arith)
 
   book-ended : s .ended ≡ false → s .active ≡ false → Effect c s (withEnd s) []
@@ -144,23 +144,23 @@ module _ {c : Command} (s : Survey) where
 -- ---- by command
 
 -- closing puts some row after those that stand
-record Closed (s t : Survey) : Type 0 where
+record RowAdded (s t : Survey) : Type 0 where
   row : Row
   is : t ≡ withRow s row
 
-some-row : (s : Survey) (r : Row) → Closed s (withRow s r)
+some-row : (s : Survey) (r : Row) → RowAdded s (withRow s r)
 some-row s r = record { row = r; is = refl }
 
-closes : (s : Survey) → Gives (Closed s) (applyClose s)
+closes : (s : Survey) → Gives (RowAdded s) (applyClose s)
 unfolding applyClose
 closes s = search (passed, some-row) depth 8
 
-ruleset checked = (passed, species-given, factor-given, line-opened, trees-noted, height-noted, book-ended)
+ruleset checked = (passed, species-given, factor-given, line-opened, trees-added, height-added, book-ended)
 
 -- what a command of the open line makes of the line
-noted : {c : Command} (s : Survey) (after : Report Line) → Gives (λ l. Effect c s (withLine s l) []) after
+updated : {c : Command} (s : Survey) (after : Report Line) → Gives (λ l. Effect c s (withLine s l) []) after
     → Gives (λ t. Effect c s t []) (onLine after s)
-noted {c} s after h =
+updated {c} s after h =
     let such : Survey → Type 0 = λ t. Effect c s t [] in
     when-such such (s .ended) 5 _ (λ not-ended.
     unless-such such (s .active) 10 _ (λ is-open.
@@ -168,12 +168,12 @@ noted {c} s after h =
 
 -- every command that is taken changes one of the four
 pub effect : (c : Command) (s : Survey) → Gives (λ t. Effect c s t (closing c s)) (apply c s)
-unfolding declare giveFactor openLine applyMeasured measured applyHeight height finish
+unfolding declare giveFactor openLine applyMeasured addTrees applyHeight addHeight end
 effect (Command.Species id x) s = search checked depth 12
 effect (Command.Factor cm x) s = search checked depth 12
 effect (Command.Open stratum id p q) s = let byte : Fits (Command.Open stratum id p q) → stratum < 256 = λ fits. fits .0 in search checked depth 12
-effect (Command.Measured class count) s = noted s (measured class count (s .line)) (search checked depth 12)
-effect (Command.Height cm tenths) s = noted s (height cm tenths (s .line)) (search checked depth 12)
+effect (Command.Measured class count) s = updated s (addTrees class count (s .line)) (search checked depth 12)
+effect (Command.Height cm tenths) s = updated s (addHeight cm tenths (s .line)) (search checked depth 12)
 effect Command.Close s = λ t e.
     let g = closes s t e in
     subst (λ (x : Survey). Effect Command.Close s x (s ∷ [])) (sym (g .is)) (a-row (g .row) (e ∙ ap gives (g .is)))

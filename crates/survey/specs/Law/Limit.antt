@@ -8,9 +8,9 @@ use borrow.Author.Tests.{eqb-false, leb-true, leb-false}
 use Rattle.biomass.specs.Report.{refused}
 use Rattle.biomass.specs.Limits.{mostMeasured, mostHeights}
 use Rattle.biomass.specs.Law.Declines.{Declines}
-use Rattle.survey.specs.Survey.{mostLines, declare, giveFactor, openLine, finish}
+use Rattle.survey.specs.Survey.{mostLines, declare, giveFactor, openLine, end}
 use Rattle.survey.specs.Apply.{applyMeasured, applyHeight, applyClose, apply}
-use Rattle.line.specs.AnyLine.{measured, height}
+use Rattle.line.specs.AnyLine.{addTrees, addHeight}
 use Rattle.survey.specs.Valid.{Valid}
 use Rattle.survey.specs.Law.Named.{refusals, line-row-declines, only-named}
 use Rattle.codec.specs.declared.command.Command.{Command}
@@ -39,7 +39,7 @@ other X n e = record { holds = λ is. absurd (eqb-false n 11 e is) }
 ruleset limits = (refusals, other, at-limit, leb-true, leb-false)
 
 eleven-told : (c : Command) (s : Survey) → Declines (Eleven (AtLimit c s)) (apply c s)
-unfolding declare giveFactor openLine applyMeasured measured applyHeight height applyClose finish
+unfolding declare giveFactor openLine applyMeasured addTrees applyHeight addHeight applyClose end
 eleven-told (Command.Species id species) s = search limits depth 20
 eleven-told (Command.Factor cm factor) s = search limits depth 20
 eleven-told (Command.Open stratum species p q) s = search limits depth 20

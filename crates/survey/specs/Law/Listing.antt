@@ -13,16 +13,16 @@ use Rattle.biomass.specs.Trees.{trees}
 use Rattle.biomass.specs.Stem.{VL, VH, stemEnds, stem}
 use Rattle.biomass.specs.Crown.{crownEnds, crown}
 use Rattle.biomass.specs.Root.{rootEnds, root}
-use Rattle.biomass.specs.Tree.{tree, row}
+use Rattle.biomass.specs.Tree.{tree, rowBiomass}
 use Rattle.codec.specs.Reading.{speciesFrom, factorFrom, openFrom, measuredFrom, heightFrom, commandFrom, read}
 use Rattle.codec.specs.Bytes.{storedAt}
-use Rattle.survey.specs.Book.{encodeAll, reachUpTo, reach}
-use Rattle.line.specs.Line.{begun, treeWith, Estimate, noTrees, emptyRow}
-use Rattle.survey.specs.Survey.{noLine, fresh, declare, giveFactor, opened, openLine, measure, giveHeight, estimate, closingRow, close, finish}
+use Rattle.survey.specs.Reader.{encodeAll, reachUpTo, reach}
+use Rattle.line.specs.Line.{newLine, treeWith, Estimate, noTrees, emptyRow}
+use Rattle.survey.specs.Survey.{noLine, fresh, declare, giveFactor, opened, openLine, measure, giveHeight, estimate, closingRow, close, end}
 use Rattle.survey.specs.AsWritten.{asWritten}
 use Rattle.survey.specs.Closings.{closings, closingsOf}
 use Rattle.survey.specs.Apply.{applyMeasured, applyHeight, applyClose}
-use Rattle.line.specs.AnyLine.{measured, height, worked, lineRow}
+use Rattle.line.specs.AnyLine.{addTrees, addHeight, worked, lineRow}
 use Rattle.survey.specs.Playing.{ended, stepBy, playUpToBy, playBy, play}
 use Rattle.survey.specs.Sheet.{sheetLength, sheetBytes}
 use Rattle.line.specs.Row.{rowLength, rowBytes}
@@ -45,7 +45,7 @@ listingSurvey =
       rows = row1 ∷ row2 ∷ replicate 30 (emptyRow noLine);
       closed = 2;
       active = false;
-      line = begun 2 3 listed 1 1;
+      line = newLine 2 3 listed 1 1;
       ended = true;
     }
 
@@ -58,9 +58,9 @@ listingLines = record { N = 2400; tree = treeWith listed 26 600 101 } ∷ noTree
 pub listing-played : play listing ≡ ended listingSurvey
 unfolding
     listing encodeAll speciesFrom factorFrom openFrom measuredFrom heightFrom commandFrom read
-    fresh declare giveFactor opened openLine applyMeasured measured applyHeight height applyClose finish
+    fresh declare giveFactor opened openLine applyMeasured addTrees applyHeight addHeight applyClose end
     lineRow greatest meanOf mean trees singleTariff lineTariff
-    worked row tree stem stemEnds VL VH crown crownEnds root rootEnds
+    worked rowBiomass tree stem stemEnds VL VH crown crownEnds root rootEnds
     stepBy playUpToBy play listingSurvey
 listing-played = refl
 
@@ -82,7 +82,7 @@ listing-sheet sheet room = sheet-applied listing sheet ∙ rw (le-ltb (length sh
 pub listing-lines : linesOf listing ≡ listingLines
 unfolding
     listing encodeAll speciesFrom factorFrom openFrom measuredFrom heightFrom commandFrom read reachUpTo reach
-    fresh declare giveFactor opened openLine measure giveHeight close finish
+    fresh declare giveFactor opened openLine measure giveHeight close end
     greatest meanOf singleTariff estimate closingRow linesOf closingsOf closings
 listing-lines = refl
 

@@ -11,10 +11,10 @@ use borrow.Author.Tests.{leb-true, eqb-true}
 use Rattle.biomass.specs.Report.{refused}
 use Rattle.biomass.specs.Law.Report.{both-true}
 use Rattle.biomass.specs.Law.Declines.{Declines, six-declines, six-or-thirteen-declines, single-tariff-declines, line-tariff-declines, mean-declines, trees-declines, row-declines, declined}
-use Rattle.survey.specs.Survey.{declare, giveFactor, openLine, measure, giveHeight, close, finish}
+use Rattle.survey.specs.Survey.{declare, giveFactor, openLine, measure, giveHeight, close, end}
 use Rattle.survey.specs.AsWritten.{asWritten, numbersOf, isIn}
 use Rattle.survey.specs.Apply.{applyMeasured, applyHeight, applyClose, apply}
-use Rattle.line.specs.AnyLine.{measured, height, worked, lineRow}
+use Rattle.line.specs.AnyLine.{addTrees, addHeight, worked, lineRow}
 use Rattle.survey.specs.Valid.{Valid}
 use Rattle.survey.specs.Law.AsWritten.{as-written}
 use Rattle.codec.specs.declared.command.Command.{Command}
@@ -40,7 +40,7 @@ line-row-declines such factors l six twelve fourteen fifteen =
 -- ---- a valid survey
 
 text-named : (c : Command) (s : Survey) → Declines (Named c) (asWritten c s)
-unfolding declare giveFactor openLine measure giveHeight close finish
+unfolding declare giveFactor openLine measure giveHeight close end
 text-named (Command.Species id species) s = search refusals depth 14
 text-named (Command.Factor cm factor) s = search refusals depth 14
 text-named (Command.Open stratum species p q) s = search refusals depth 14
@@ -60,7 +60,7 @@ abbrev NamedOrBesides : Command → ℕ → Type 0
 NamedOrBesides c = In (6 ∷ 11 ∷ numbersOf c)
 
 pub never-other : (c : Command) (s : Survey) → Declines (NamedOrBesides c) (apply c s)
-unfolding declare giveFactor openLine applyMeasured measured applyHeight height applyClose finish
+unfolding declare giveFactor openLine applyMeasured addTrees applyHeight addHeight applyClose end
 never-other (Command.Species id species) s = search refusals depth 20
 never-other (Command.Factor cm factor) s = search refusals depth 20
 never-other (Command.Open stratum species p q) s = search refusals depth 20

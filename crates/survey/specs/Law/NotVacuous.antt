@@ -24,7 +24,7 @@ use Rattle.biomass.specs.declared.tree.AverageTree.{AverageTree}
 use Rattle.line.specs.Line.{Estimate}
 use Rattle.survey.specs.Playing.{Played, ended, stopped, play}
 use Rattle.survey.specs.Sheet.{rowsOf}
-use Rattle.survey.specs.Total.{Answer, refusedAt, totalled, sumOf, treesOf, totalOf, answerOf, total}
+use Rattle.survey.specs.Total.{Answer, refusedAt, totalled, sumOf, rowTrees, totalOf, answerOf, total}
 use Rattle.survey.specs.Demand3.{Each, Fractions, exactSum, exactTotal, NoneBelow, NoneAbove}
 use Rattle.survey.specs.Law.Sums.{sums-small}
 use Rattle.survey.specs.Law.Demand3.{rows-small}
@@ -105,7 +105,7 @@ Ordered (totalled t) = t .carbon .low .0 ≤ t .carbon .high .0
 played-ordered : (book : List ℕ) (p : Played) → play book ≡ p → Ordered (answerOf p)
 unfolding totalOf
 played-ordered book (stopped n at) e = tt
-played-ordered book (ended s) e = in-order _ _ (sumOf treesOf (rowsOf s)) (sums-small (rowsOf s) (rows-small s (play-valid book s e)) .2)
+played-ordered book (ended s) e = in-order _ _ (sumOf rowTrees (rowsOf s)) (sums-small (rowsOf s) (rows-small s (play-valid book s e)) .2)
 
 -- of every book and every sheet
 pub low-not-above-high : (book sheet : List ℕ) (t : Totals) → total book sheet ≡ totalled t → t .carbon .low .0 ≤ t .carbon .high .0

@@ -18,13 +18,13 @@ use Rattle.biomass.specs.Law.Gives.{made, figure-is, number-is}
 use Rattle.biomass.specs.Law.Declines.{Declines, gives-declines, then-declines}
 use Rattle.codec.specs.Command.{encode}
 use Rattle.codec.specs.Reading.{read}
-use Rattle.survey.specs.Book.{encodeAll, reach}
+use Rattle.survey.specs.Reader.{encodeAll, reach}
 use Rattle.survey.specs.Survey.{leaves, fresh, withLine}
 use Rattle.survey.specs.AsWritten.{asWritten, isIn}
 use Rattle.survey.specs.Apply.{onLine, apply, reached}
 use Rattle.survey.specs.Valid.{Valid}
 use Rattle.survey.specs.Playing.{Played, ended, stopped, takenTo, stepBy, step, met, afterEnd, playUpToBy, playUpTo, playFrom, playBy, play, playList}
-use Rattle.survey.specs.Noting.{Note, ofTheLine, notOfTheLine, notedTo, noteBy, note}
+use Rattle.survey.specs.LineUpdate.{Update, lineUpdated, otherCommand, updatedTo, updateBy, updateLine}
 use Rattle.survey.specs.Change.{Own, own, notOwn, ownOf}
 use Rattle.codec.specs.Law.Bytes.{Stands, stands-first, stands-second, stands-itself}
 use Rattle.codec.specs.Law.RoundTrip.{read-encoded, read-moves}
@@ -69,15 +69,15 @@ met-same at (refused n) f g h = refl
 met-same at (gives a) f g h = h a refl
 
 -- from a place in the book or at its end, any number of commands above that of the bytes left is enough, since each takes a byte at least
-pub enough : (book : List ℕ) (at : ℕ) (s : Survey) (m n : ℕ) → at ≤ length book → length book < at + m → length book < at + n
+pub enough-commands : (book : List ℕ) (at : ℕ) (s : Survey) (m n : ℕ) → at ≤ length book → length book < at + m → length book < at + n
     → playUpTo m book at s ≡ playUpTo n book at s
 unfolding playUpToBy
-enough book at s zero n inside m-enough n-enough = absurd (omega arith)
-enough book at s (suc m) zero inside m-enough n-enough = absurd (omega arith)
-enough book at s (suc m) (suc n) inside m-enough n-enough =
+enough-commands book at s zero n inside m-enough n-enough = absurd (omega arith)
+enough-commands book at s (suc m) zero inside m-enough n-enough = absurd (omega arith)
+enough-commands book at s (suc m) (suc n) inside m-enough n-enough =
     ap (cond (s .ended) (afterEnd book at s)) (met-same at (step book at s) _ _ λ r gave.
     let moves = step-moves book at s (r .0) (r .1) gave in
-    enough book (r .1) (r .0) m n (moves .1) (omega arith) (omega arith))
+    enough-commands book (r .1) (r .0) m n (moves .1) (omega arith) (omega arith))
 
 module _ (book : List ℕ) (at : ℕ) (s : Survey) where
   -- it hangs on whether the book has ended, and on what comes of the next command
@@ -95,7 +95,7 @@ module _ (book : List ℕ) (at : ℕ) (s : Survey) where
   pub plays-on : (t : Survey) (next : ℕ) → s .ended ≡ false → step book at s ≡ gives (t, next) → playFrom book at s ≡ playFrom book next t
   plays-on t next not-ended e =
       let moves = step-moves book at s t next e in
-      plays-by not-ended e ∙ enough book next t (length book) (suc (length book)) (moves .1) (omega arith) (omega arith)
+      plays-by not-ended e ∙ enough-commands book next t (length book) (suc (length book)) (moves .1) (omega arith) (omega arith)
 
   -- after 07 there is no byte, or the first is refused
   pub plays-after-end : s .ended ≡ true → playFrom book at s ≡ afterEnd book at s
@@ -139,53 +139,53 @@ plays-unread book at s n not-ended e = plays-refused book at s n not-ended (ap (
 -- ---- the open line alone
 
 -- what a note of the line makes of the survey: the other line; and where the command is not the line's own, whatever else comes of it
-abbrev carried : Survey → Report (Survey × ℕ) → Note → Report (Survey × ℕ)
-carried s other (ofTheLine m next) = gives (withLine s m, next)
-carried s other notOfTheLine = other
+abbrev carried : Survey → Report (Survey × ℕ) → Update → Report (Survey × ℕ)
+carried s other (lineUpdated m next) = gives (withLine s m, next)
+carried s other otherCommand = other
 
 module _ (s : Survey) (l : Line) (not-ended : s .ended ≡ false) (is-open : s .active ≡ true) where
   -- the line's own commands look at nothing else of a survey with an open line
   line-carried : (next : ℕ) (other : Report (Survey × ℕ)) (line : Report Line)
-      → takenTo next (onLine line s) ≡ notedTo next line then carried s other
+      → takenTo next (onLine line s) ≡ updatedTo next line then carried s other
   line-carried next other line =
       ap₂ (λ (b o : Bool). takenTo next (when b 5 (unless o 10 (line then λ m. gives (withLine s m))))) not-ended is-open ∙ by-line line
     where
-      by-line : (line : Report Line) → takenTo next (line then λ m. gives (withLine s m)) ≡ notedTo next line then carried s other
+      by-line : (line : Report Line) → takenTo next (line then λ m. gives (withLine s m)) ≡ updatedTo next line then carried s other
       by-line (refused n) = refl
       by-line (gives m) = refl
 
   apply-carried : (c : Command) (next : ℕ)
-      → takenTo next (apply c (withLine s l)) ≡ noteBy next (ownOf c l) then carried s (takenTo next (apply c (withLine s l)))
+      → takenTo next (apply c (withLine s l)) ≡ updateBy next (ownOf c l) then carried s (takenTo next (apply c (withLine s l)))
   apply-carried c next = by-own (ownOf c l) refl
     where
-      by-own : (o : Own) → ownOf c l ≡ o → takenTo next (apply c (withLine s l)) ≡ noteBy next o then carried s (takenTo next (apply c (withLine s l)))
+      by-own : (o : Own) → ownOf c l ≡ o → takenTo next (apply c (withLine s l)) ≡ updateBy next o then carried s (takenTo next (apply c (withLine s l)))
       by-own (own after) e = ap (takenTo next) (own-applied c (withLine s l) e) ∙ line-carried next _ after
       by-own notOwn e = refl
 
   -- where a line is open, a command that is the line's own does to the survey what it does to the line
-  note-carried : (book : List ℕ) (at : ℕ) {r : Report Note} → note book at l ≡ r
+  note-carried : (book : List ℕ) (at : ℕ) {r : Report Update} → updateLine book at l ≡ r
       → step book at (withLine s l) ≡ r then carried s (step book at (withLine s l))
-  unfolding note stepBy
-  note-carried book at e = by-read (read book at) ∙ ap (λ (r : Report Note). r then carried s (step book at (withLine s l))) e
+  unfolding updateLine stepBy
+  note-carried book at e = by-read (read book at) ∙ ap (λ (r : Report Update). r then carried s (step book at (withLine s l))) e
     where
       by-read : (r : Report (Command × ℕ)) → (r then λ x. takenTo (x .1) (apply (x .0) (withLine s l)))
-          ≡ (r then λ x. noteBy (x .1) (ownOf (x .0) l)) then carried s (r then λ x. takenTo (x .1) (apply (x .0) (withLine s l)))
+          ≡ (r then λ x. updateBy (x .1) (ownOf (x .0) l)) then carried s (r then λ x. takenTo (x .1) (apply (x .0) (withLine s l)))
       by-read (refused n) = refl
       by-read (gives (c, next)) = apply-carried c next
 
-pub note-line : (book : List ℕ) (at : ℕ) (s : Survey) (l m : Line) (next : ℕ) → s .ended ≡ false → s .active ≡ true
-    → note book at l ≡ gives (ofTheLine m next) → step book at (withLine s l) ≡ gives (withLine s m, next)
-note-line book at s l m next not-ended is-open e = note-carried s l not-ended is-open book at e
+pub update-taken : (book : List ℕ) (at : ℕ) (s : Survey) (l m : Line) (next : ℕ) → s .ended ≡ false → s .active ≡ true
+    → updateLine book at l ≡ gives (lineUpdated m next) → step book at (withLine s l) ≡ gives (withLine s m, next)
+update-taken book at s l m next not-ended is-open e = note-carried s l not-ended is-open book at e
 
-pub note-refused : (book : List ℕ) (at : ℕ) (s : Survey) (l : Line) (n : ℕ) → s .ended ≡ false → s .active ≡ true
-    → note book at l ≡ refused n → step book at (withLine s l) ≡ refused n
-note-refused book at s l n not-ended is-open e = note-carried s l not-ended is-open book at e
+pub update-refused : (book : List ℕ) (at : ℕ) (s : Survey) (l : Line) (n : ℕ) → s .ended ≡ false → s .active ≡ true
+    → updateLine book at l ≡ refused n → step book at (withLine s l) ≡ refused n
+update-refused book at s l n not-ended is-open e = note-carried s l not-ended is-open book at e
 
 -- and playing goes on from there
-pub plays-noted : (book : List ℕ) (at : ℕ) (s : Survey) (l m : Line) (next : ℕ) → s .ended ≡ false → s .active ≡ true
-    → note book at l ≡ gives (ofTheLine m next) → On book at (withLine s l) next (withLine s m)
-plays-noted book at s l m next not-ended is-open e =
-    let takes = note-line book at s l m next not-ended is-open e in
+pub plays-updated : (book : List ℕ) (at : ℕ) (s : Survey) (l m : Line) (next : ℕ) → s .ended ≡ false → s .active ≡ true
+    → updateLine book at l ≡ gives (lineUpdated m next) → On book at (withLine s l) next (withLine s m)
+plays-updated book at s l m next not-ended is-open e =
+    let takes = update-taken book at s l m next not-ended is-open e in
     let moves = step-moves book at (withLine s l) (withLine s m) next takes in
     record { moves = moves .0; inside = moves .1; plays = plays-on book at (withLine s l) (withLine s m) next not-ended takes }
 
@@ -254,8 +254,8 @@ module _ (book : List ℕ) (Kept : Survey → Type 0)
 
   plays-kept : (most at : ℕ) (s : Survey) → Kept s → at ≤ length book → length book < at + most → Comes (playUpTo most book at s)
   unfolding playUpToBy
-  plays-kept zero at s k inside enough = absurd (omega arith)
-  plays-kept (suc most) at s k inside enough =
+  plays-kept zero at s k inside left = absurd (omega arith)
+  plays-kept (suc most) at s k inside left =
       cond-cases Comes (s .ended) _ _
       (λ is-ended.
       cond-cases Comes (ltb at (length book)) _ _ (λ some-left. in-book refl (ltb-true at (length book) some-left)) (λ none-left. (k, is-ended)))

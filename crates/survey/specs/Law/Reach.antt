@@ -17,8 +17,8 @@ use Rattle.biomass.specs.Law.Gives.{number-is}
 use Rattle.biomass.specs.Law.Declines.{Declines, gives-declines, unless-declines, cond-declines}
 use Rattle.codec.specs.Bytes.{byte, AllBytes}
 use Rattle.codec.specs.Command.{encode, Fits}
-use Rattle.codec.specs.Reading.{whole, speciesFrom, factorFrom, openFrom, measuredFrom, heightFrom, commandFrom, read}
-use Rattle.survey.specs.Book.{encodeAll, readUpTo, readAll, Reach, refusedAt, inFront, byRead, reachUpTo, reach}
+use Rattle.codec.specs.Reading.{withOperands, speciesFrom, factorFrom, openFrom, measuredFrom, heightFrom, commandFrom, read}
+use Rattle.survey.specs.Reader.{encodeAll, readUpTo, readAll, Reach, stopsAt, inFront, byRead, reachUpTo, reach}
 use Rattle.codec.specs.Law.Bytes.{Stands, nothing, stands-at, stands-first, stands-second, stands-append, taken-stands, stands-itself}
 use Rattle.codec.specs.Law.RoundTrip.{read-encoded, read-is-encoded, read-moves}
 use Rattle.codec.specs.declared.command.Command.{Command}
@@ -28,8 +28,8 @@ use Rattle.codec.specs.declared.command.Command.the-variants.{Close, End}
 
 -- 1 is told at the end alone, and reading has no other number but 2 and 3
 module _ (such : ℕ → Type 0) (s : List ℕ) (two : such 2) (three : such 3) where
-  whole-declines : (from width : ℕ) (c : Command) → Declines such (whole s from width c)
-  whole-declines from width c =
+  with-operands-declines : (from width : ℕ) (c : Command) → Declines such (withOperands s from width c)
+  with-operands-declines from width c =
       unless-declines such (leb (from + width) (length s)) 3 _ (λ short. three) (λ fits. gives-declines such (c, from + width))
 
   pub read-declines : (at : ℕ) → (length s ≤ at → such 1) → Declines such (read s at)
@@ -37,11 +37,11 @@ module _ (such : ℕ → Type 0) (s : List ℕ) (two : such 2) (three : such 3) 
   read-declines at one =
       let b = byte s at in
       unless-declines such (ltb at (length s)) 1 _ (λ out. one (ltb-false at (length s) out)) (λ inside.
-      cond-declines such (eqb b 1) _ _ (whole-declines (at + 1) 20 _)
-      (cond-declines such (eqb b 2) _ _ (whole-declines (at + 1) 2 _)
-      (cond-declines such (eqb b 3) _ _ (whole-declines (at + 1) 10 _)
-      (cond-declines such (eqb b 4) _ _ (whole-declines (at + 1) 3 _)
-      (cond-declines such (eqb b 5) _ _ (whole-declines (at + 1) 3 _)
+      cond-declines such (eqb b 1) _ _ (with-operands-declines (at + 1) 20 _)
+      (cond-declines such (eqb b 2) _ _ (with-operands-declines (at + 1) 2 _)
+      (cond-declines such (eqb b 3) _ _ (with-operands-declines (at + 1) 10 _)
+      (cond-declines such (eqb b 4) _ _ (with-operands-declines (at + 1) 3 _)
+      (cond-declines such (eqb b 5) _ _ (with-operands-declines (at + 1) 3 _)
       (cond-declines such (eqb b 6) _ _ (gives-declines such (Close, at + 1))
       (cond-declines such (eqb b 7) _ _ (gives-declines such (End, at + 1))
       (λ n e. subst such (number-is e) two))))))))
@@ -62,7 +62,7 @@ module _ (s : List ℕ) (at : ℕ) where
 -- What holds of each refusal that is read, at its place, and of each command that is read, if it holds of what comes after, holds of what is reached
 -- from any place
 module _ (s : List ℕ) (P : ℕ → Reach → Type 0)
-    (stops : (at n : ℕ) → read s at ≡ refused n → P at (refusedAt at n))
+    (stops : (at n : ℕ) → read s at ≡ refused n → P at (stopsAt n at))
     (goes-on : (at : ℕ) (c : Command) (next : ℕ) (r : Reach) → read s at ≡ gives (c, next) → P next r → P at (inFront c r)) where
   by-read : (at : ℕ) (r : Report (Command × ℕ)) (rest : ℕ → Reach) → read s at ≡ r
       → ((c : Command) (next : ℕ) → r ≡ gives (c, next) → P next (rest next)) → P at (byRead at r rest)
@@ -71,8 +71,8 @@ module _ (s : List ℕ) (P : ℕ → Reach → Type 0)
 
   up-to-by : (most at : ℕ) → length s ≤ at + most → P at (reachUpTo most s at)
   unfolding reachUpTo
-  up-to-by zero at enough = stops at 1 (read-at-end s at (omega arith))
-  up-to-by (suc most) at enough =
+  up-to-by zero at left = stops at 1 (read-at-end s at (omega arith))
+  up-to-by (suc most) at left =
       by-read at (read s at) (reachUpTo most s) refl λ c next e. up-to-by most next (omega (arith, read-moves s at c next e .0))
 
   pub reach-by : (from : ℕ) → P from (reach s from)
@@ -80,12 +80,12 @@ module _ (s : List ℕ) (P : ℕ → Reach → Type 0)
   reach-by from = up-to-by (length s) from (omega arith)
 
 -- any number of commands not below that of the bytes left is enough, since each takes a byte at least
-pub enough : (s : List ℕ) (at most : ℕ) → length s ≤ at + most → reachUpTo most s at ≡ reach s at
+pub reach-enough : (s : List ℕ) (at most : ℕ) → length s ≤ at + most → reachUpTo most s at ≡ reach s at
 unfolding reachUpTo
-enough s = reach-by s (λ at r. (most : ℕ) → length s ≤ at + most → reachUpTo most s at ≡ r) stops goes-on
+reach-enough s = reach-by s (λ at r. (most : ℕ) → length s ≤ at + most → reachUpTo most s at ≡ r) stops goes-on
   where
-    stops : (at n : ℕ) → read s at ≡ refused n → (most : ℕ) → length s ≤ at + most → reachUpTo most s at ≡ refusedAt at n
-    stops at n e zero h = ap (refusedAt at) (number-is (sym (read-at-end s at (omega arith)) ∙ e))
+    stops : (at n : ℕ) → read s at ≡ refused n → (most : ℕ) → length s ≤ at + most → reachUpTo most s at ≡ stopsAt n at
+    stops at n e zero h = ap (λ (n : ℕ). stopsAt n at) (number-is (sym (read-at-end s at (omega arith)) ∙ e))
     stops at n e (suc most) h = rw e
 
     goes-on : (at : ℕ) (c : Command) (next : ℕ) (r : Reach) → read s at ≡ gives (c, next)
@@ -100,10 +100,10 @@ module _ (s : List ℕ) (at : ℕ) where
   -- it hangs on what is read at the place
   reach-is : {r : Report (Command × ℕ)} → read s at ≡ r → reach s at ≡ byRead at r (reach s)
   unfolding reach reachUpTo
-  reach-is e = sym (enough s at (suc (length s)) (omega arith)) ∙ ap (λ (r : Report (Command × ℕ)). byRead at r (reach s)) e
+  reach-is e = sym (reach-enough s at (suc (length s)) (omega arith)) ∙ ap (λ (r : Report (Command × ℕ)). byRead at r (reach s)) e
 
   -- a refusal stops it, at its place
-  pub reach-refused : (n : ℕ) → read s at ≡ refused n → reach s at ≡ refusedAt at n
+  pub reach-refused : (n : ℕ) → read s at ≡ refused n → reach s at ≡ stopsAt n at
   reach-refused n e = reach-is e
 
   -- and after a command it goes on
@@ -205,7 +205,7 @@ reaches-encoded : (s : List ℕ) (at : ℕ) (cs : List Command) → AllFit cs �
     → reach s at ≡ record { commands = cs; at = length s; why = 1 }
 unfolding encodeAll
 reaches-encoded s at cs none h ends =
-    reach-refused s at 1 (read-at-end s at (omega arith)) ∙ ap (λ (end : ℕ). refusedAt end 1) (omega arith)
+    reach-refused s at 1 (read-at-end s at (omega arith)) ∙ ap (λ (end : ℕ). stopsAt 1 end) (omega arith)
 reaches-encoded s at cs (and-next {c} {cs = rest} f fs) h ends =
     let both = length-append (encode c) (encodeAll rest) in
     let after = at + length (encode c) in

@@ -53,9 +53,9 @@ row-apart (r ∷ rows) (suc i) z inside h =
 
 module _ (sheet : List ℕ) (rows : List Row) where
   -- the rows before the i-th, and then the i-th after them
-  pub laid-one-more : (i : ℕ) (z : Row) → i < length rows
+  pub stored-one-more : (i : ℕ) (z : Row) → i < length rows
       → storedAt (storedAt sheet 0 (sheetBytes (take i rows))) (rowLength * i) (rowBytes (getD rows i z)) ≡ storedAt sheet 0 (sheetBytes (take (i + 1) rows))
-  laid-one-more i z inside =
+  stored-one-more i z inside =
       let b = sheetBytes (take i rows) in
       let place : rowLength * i ≡ 0 + length b = omega (arith, length-sheet (take i rows), length-take-le i rows (omega arith)) in
       let next : sheetBytes (take (i + 1) rows) ≡ b ++ rowBytes (getD rows i z) =
@@ -68,12 +68,12 @@ module _ (sheet : List ℕ) (rows : List Row) where
 
   module _ (room : rowLength * length rows ≤ length sheet) where
     -- a sheet that the rows fit is as long as it was
-    pub laid-length : length (storedAt sheet 0 (sheetBytes rows)) ≡ length sheet
-    laid-length = length-stored sheet 0 (sheetBytes rows) (omega (arith, length-sheet rows))
+    pub stored-length : length (storedAt sheet 0 (sheetBytes rows)) ≡ length sheet
+    stored-length = length-stored sheet 0 (sheetBytes rows) (omega (arith, length-sheet rows))
 
     module _ (i : ℕ) (z : Row) (inside : i < length rows) where
       fits : rowLength * i + rowLength ≤ length (storedAt sheet 0 (sheetBytes rows))
-      fits = omega (arith, laid-length)
+      fits = omega (arith, stored-length)
 
       stands : Stands (rowBytes (getD rows i z)) (storedAt sheet 0 (sheetBytes rows)) (rowLength * i)
       stands = stands-at (row-apart rows i z inside (stands-stored sheet 0 (sheetBytes rows) zero-le)) (omega arith)
@@ -103,4 +103,4 @@ module _ (s : Survey) (v : Valid s) where
 
   -- so that a sheet which is not too short keeps its length
   pub sheet-as-long : (sheet : List ℕ) → sheetLength ≤ length sheet → length (storedAt sheet 0 (sheetBytes (rowsOf s))) ≡ length sheet
-  sheet-as-long sheet room = laid-length sheet (rowsOf s) (omega (arith, rows-at-most))
+  sheet-as-long sheet room = stored-length sheet (rowsOf s) (omega (arith, rows-at-most))

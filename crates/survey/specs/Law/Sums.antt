@@ -11,7 +11,7 @@ use Rattle.biomass.specs.Project.{projectOf, greatestSum, project}
 use Rattle.biomass.specs.Law.Report.{true-inside}
 use Rattle.biomass.specs.Law.Tree.{greatestRow}
 use Rattle.survey.specs.Survey.{mostLines}
-use Rattle.survey.specs.Total.{sumOf, treesOf, lowOf, highOf, sums}
+use Rattle.survey.specs.Total.{sumOf, rowTrees, lowOf, highOf, sums}
 use Rattle.line.specs.declared.row.Row.{Row}
 
 -- rows whose figures are within those of the greatest row (biomass/specs/Law/Tree.antt), as those of a valid survey are (Law.Demand3: rows-small)
@@ -29,14 +29,14 @@ first-small (suc i) (suc n) (r ∷ rows) h (RowsSmall.more x xs few ordered most
 
 -- of small rows, each sum is at most the number of rows times the greatest figure
 pub sums-small : (rows : List Row) → RowsSmall rows
-    → (sumOf treesOf rows ≤ mostEstimated * length rows) × (sumOf highOf rows ≤ greatestRow * length rows) × (sumOf lowOf rows ≤ sumOf highOf rows)
+    → (sumOf rowTrees rows ≤ mostEstimated * length rows) × (sumOf highOf rows ≤ greatestRow * length rows) × (sumOf lowOf rows ≤ sumOf highOf rows)
 unfolding sumOf
 sums-small rows RowsSmall.none = (lit≤ tt, lit≤ tt, lit≤ tt)
 sums-small rows (RowsSmall.more r rs few ordered small h) = let rest = sums-small rs h in omega arith
 
 -- so that eleven times the sums of 32 rows fit 64 bits, and `project` gives its figures
 pub project-gives : (rows : List Row) → RowsSmall rows → length rows ≤ mostLines
-    → project (sums rows) (sumOf treesOf rows) ≡ gives (projectOf (sums rows) (sumOf treesOf rows))
+    → project (sums rows) (sumOf rowTrees rows) ≡ gives (projectOf (sums rows) (sumOf rowTrees rows))
 unfolding project
 project-gives rows h most =
     let small = sums-small rows h in

@@ -6,7 +6,7 @@ use mathlib.Core.Bool.{Bool, true, false, cond}
 use mathlib.Core.List.{List, [], _∷_}
 use Rattle.survey.specs.AsWritten.{isIn}
 use Rattle.survey.specs.Playing.{Played, ended, stopped, play}
-use Rattle.survey.specs.Total.{Answer, refusedAt, totalled, short, answerOf, answerInto, total, laidInto, sheetAfter}
+use Rattle.survey.specs.Total.{Answer, refusedAt, totalled, short, answerOf, answerInto, total, storedInto, sheetAfter}
 use Rattle.survey.specs.Law.Named.{in-other}
 use Rattle.survey.specs.Law.Playing.{inTheBook, Stop, stop-cases, play-stops, play-as-written}
 
@@ -16,9 +16,9 @@ pub total-applied : (book sheet : List ℕ) → total book sheet ≡ answerInto 
 unfolding total
 total-applied book sheet = ap (answerInto sheet) (sym (play-as-written book))
 
-pub sheet-applied : (book sheet : List ℕ) → sheetAfter book sheet ≡ laidInto sheet (play book)
+pub sheet-applied : (book sheet : List ℕ) → sheetAfter book sheet ≡ storedInto sheet (play book)
 unfolding sheetAfter
-sheet-applied book sheet = ap (laidInto sheet) (sym (play-as-written book))
+sheet-applied book sheet = ap (storedInto sheet) (sym (play-as-written book))
 
 -- what holds of 16, and of whatever the book is played to, holds of the answer
 pub of-answer : (book sheet : List ℕ) (P : Answer → Type 0) → P (refusedAt 16 0) → ((p : Played) → play book ≡ p → P (answerOf p)) → P (total book sheet)

@@ -21,7 +21,7 @@ use Rattle.survey.specs.Sheet.{rowsOf}
 use Rattle.survey.specs.Law.Checks.{declared-true, declared-as, is-line-symmetric}
 use Rattle.survey.specs.Law.Closing.{closes-to}
 use Rattle.survey.specs.Law.Effect.{Follows, Effect, a-species, a-factor, the-line, a-row, effect}
-use Rattle.survey.specs.Law.Once.{species-stay}
+use Rattle.survey.specs.Law.Stable.{species-stay}
 use Rattle.codec.specs.declared.command.Species.{Species}
 use Rattle.codec.specs.declared.command.Command.{Command}
 use Rattle.line.specs.declared.row.Row.{Row}

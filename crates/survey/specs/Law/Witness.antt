@@ -9,10 +9,10 @@ use lib.Seq.{getD-set-same}
 use lib.Dec.{lit≤, lit<}
 use Rattle.biomass.specs.Report.{Report, refused, gives}
 use Rattle.biomass.specs.Limits.{mostMeasured, mostHeights}
-use Rattle.line.specs.Line.{begun, withTrees, factorAt}
-use Rattle.survey.specs.Survey.{After, leaves, mostLines, undeclared, fresh, speciesAt, withSpecies, withOpened, withLine, declare, opened, openLine, finish}
+use Rattle.line.specs.Line.{newLine, withTrees, factorAt}
+use Rattle.survey.specs.Survey.{After, leaves, mostLines, undeclared, fresh, speciesAt, withSpecies, withOpened, withLine, declare, opened, openLine, end}
 use Rattle.survey.specs.Apply.{applyMeasured, apply}
-use Rattle.line.specs.AnyLine.{measured}
+use Rattle.line.specs.AnyLine.{addTrees}
 use Rattle.survey.specs.Valid.{Valid}
 use Rattle.survey.specs.Listing.{listed, species3, line1, fourTrees}
 use Rattle.survey.specs.Law.Checks.{true-declared}
@@ -51,8 +51,8 @@ pub told-at-limit : (c : Command) (s : Survey) → leaves s (apply c s) .refusal
 told-at-limit c s = by-cases (apply c s) (limit-told c s)
   where
     by-cases : (r : Report Survey) → (r ≡ refused 11 → AtLimit c s) → leaves s r .refusal ≡ 11 → AtLimit c s
-    by-cases (refused n) told e = told (ap refused e)
-    by-cases (gives t) told e = absurd (omega arith)
+    by-cases (refused n) decision e = decision (ap refused e)
+    by-cases (gives t) decision e = absurd (omega arith)
 
 pub lines-below-limit : (stratum id p q : ℕ) (s u : Survey) → s .closed < mostLines →
     leaves s (apply (Command.Open stratum id p q) s) ≡ record { survey = u; refusal = 11 } → ⊥
@@ -80,7 +80,7 @@ withSpecies3 = withSpecies fresh 3 listed
 
 unfoldable pub withLine1 : Survey
 unfolding withSpecies3
-withLine1 = withOpened withSpecies3 (begun 1 3 listed 6 1)
+withLine1 = withOpened withSpecies3 (newLine 1 3 listed 6 1)
 
 unfoldable pub withFourTrees : Survey
 unfolding withLine1
@@ -96,7 +96,7 @@ unfolding fresh opened openLine withSpecies3 withLine1
 line-taken = refl
 
 pub trees-taken : leaves withLine1 (apply fourTrees withLine1) ≡ record { survey = withFourTrees; refusal = 0 }
-unfolding fresh measured applyMeasured withSpecies3 withLine1 withFourTrees
+unfolding fresh addTrees applyMeasured withSpecies3 withLine1 withFourTrees
 trees-taken = refl
 
 -- none is swallowed: a line is open after the one, 4 trees are noted after the other, and an ended book has ended
@@ -109,7 +109,7 @@ unfolding fresh withSpecies3 withLine1 withFourTrees
 trees-not-swallowed e = let four : _≡_ {A = ℕ} 4 0 = ap (λ (x : After). x .survey .line .tally .n) (sym trees-taken ∙ e) in omega arith
 
 pub end-not-swallowed : leaves fresh (apply Command.End fresh) ≡ record { survey = fresh; refusal = 0 } → ⊥
-unfolding fresh finish
+unfolding fresh end
 end-not-swallowed e = true≢false (ap (λ (x : After). x .survey .ended) e)
 
 -- and neither the line nor the trees are told 11

@@ -17,15 +17,15 @@ use Rattle.biomass.specs.Law.Fraction.{≼-trans}
 use Rattle.biomass.specs.Law.Signed.{pos-le}
 use Rattle.codec.specs.Bytes.{byte, numberAt, storedAt}
 use Rattle.codec.specs.Reading.{speciesFrom, openFrom, commandFrom, read}
-use Rattle.survey.specs.Book.{encodeAll}
-use Rattle.survey.specs.Survey.{fresh, declare, opened, openLine, finish}
+use Rattle.survey.specs.Reader.{encodeAll}
+use Rattle.survey.specs.Survey.{fresh, declare, opened, openLine, end}
 use Rattle.survey.specs.Apply.{applyClose}
 use Rattle.line.specs.AnyLine.{lineRow}
 use Rattle.survey.specs.Playing.{stepBy, playUpToBy, play}
 use Rattle.survey.specs.Sheet.{sheetLength, sheetBytes}
 use Rattle.line.specs.Row.{rowLength, rowBytes}
 use Rattle.survey.specs.Total.{Answer, refusedAt, totalled, total, sheetAfter}
-use Rattle.survey.specs.Demand3.{Fractions, NoneAbove, more, none, added, exactSum, exactTotal, Demand3, Demanded, linesOf}
+use Rattle.survey.specs.Demand3.{Fractions, NoneAbove, more, none, treesAdded, exactSum, exactTotal, Demand3, Demanded, linesOf}
 use Rattle.survey.specs.Listing.{species3, line2, listing, listingTotals, row1, row2}
 use Rattle.survey.specs.Law.Listing.{listingLines, listing-totalled, listing-sheet, listing-lines}
 use Rattle.survey.specs.Law.Total.{sheet-applied}
@@ -35,7 +35,7 @@ use Rattle.survey.specs.declared.total.Totals.{Totals}
 -- What totalling promises of the answer r and of the sheet afterwards: the three promises of `total` in src/total.rt
 pub record Promised (book sheet : List ℕ) (r : Answer) (after : List ℕ) : Type 0 where
   pub answered : r ≡ total book sheet
-  pub laid : after ≡ sheetAfter book sheet
+  pub stored : after ≡ sheetAfter book sheet
   pub demand3 : Demanded book r
 
 -- ---- a second book, whose first line is the listing's second
@@ -45,7 +45,7 @@ secondLine = encodeAll (species3 ∷ line2 ∷ Command.Close ∷ Command.End ∷
 
 second-sheet : (sheet : List ℕ) → sheetLength ≤ length sheet → sheetAfter secondLine sheet ≡ rowBytes row2 ++ drop rowLength sheet
 unfolding
-    secondLine encodeAll speciesFrom openFrom commandFrom read fresh declare opened openLine lineRow applyClose finish stepBy playUpToBy play
+    secondLine encodeAll speciesFrom openFrom commandFrom read fresh declare opened openLine lineRow applyClose end stepBy playUpToBy play
     storedAt sheetBytes rowBytes
 second-sheet sheet room = sheet-applied secondLine sheet ∙ rw (le-ltb (length sheet) sheetLength room)
 
@@ -60,7 +60,7 @@ module _ {sheet after : List ℕ} {r : Answer} (room : sheetLength ≤ length sh
   totals-are t e = cc answer-is
 
   sheet-is : after ≡ rowBytes row1 ++ rowBytes row2 ++ drop (2 * rowLength) sheet
-  sheet-is = promised .laid ∙ listing-sheet sheet room
+  sheet-is = promised .stored ∙ listing-sheet sheet room
 
   first-row : take rowLength after ≡ rowBytes row1
   unfolding rowBytes
@@ -99,7 +99,7 @@ module _ {sheet after : List ℕ} {r : Answer} (room : sheetLength ≤ length sh
       → (row : List ℕ) → take rowLength after ≡ row → take rowLength after′ ≡ row → ⊥
   unfolding rowBytes
   not-one-row {sheet′} room′ promised′ row e e′ =
-      let second = ap (take rowLength) (promised′ .laid ∙ second-sheet sheet′ room′) in
+      let second = ap (take rowLength) (promised′ .stored ∙ second-sheet sheet′ room′) in
       let strata : _≡_ {A = ℕ} 1 2 = ap (λ (l : List ℕ). byte l 0) (sym first-row ∙ e ∙ sym e′ ∙ second) in
       omega arith
 
@@ -129,7 +129,7 @@ module _ {sheet after : List ℕ} {r : Answer} (room : sheetLength ≤ length sh
 
 -- To 3, alone: with a low of 0 the high is at most 3 + 2400 div 1000, which is 5, and the exact value, of a tree that uses no power, is above that
 pub zero-low-not-demand-3 : (high : ℕ) → Demand3 (linesOf listing) 0 high → ⊥
-unfolding added exactSum exactTotal exactStem exactCrown exactRoot
+unfolding treesAdded exactSum exactTotal exactStem exactCrown exactRoot
 zero-low-not-demand-3 high demand =
     let d : Demand3 listingLines 0 high = rw listing-lines at demand in
     let high-at-most-5 : high ≤ 5 = d .gap in

@@ -7,17 +7,17 @@ use Rattle.survey.specs.Total.{answer}
 use Rattle.survey.specs.Total as Total
 use Rattle.survey.specs.Demand3.{Demanded}
 use Rattle.survey.specs.Law.Demand3.{demanded}
-use Rattle.fieldbook.specs.Layout.{bookRefusal, totals, told}
-use Rattle.fieldbook.specs.Law.{told-again}
+use Rattle.fieldbook.specs.Layout.{bookRefusal, totals, answered}
+use Rattle.fieldbook.specs.Law.{answered-again}
 use Rattle.fieldbook.proofs.Handed.{by-case}
 use Rattle.fieldbook.proofs.books.fieldbook_total.Statement.{statement}
 use Rattle.fieldbook.proofs.books.fieldbook_total.Tie as tie
 
 -- the figures are those of which totalling promises demand 3
-promised : {r : ℕ} {ns x : List ℕ} (book sheet : List ℕ) → let answered = Total.total book sheet in
-    r ≡ bookRefusal answered → ns ≡ totals answered → x ≡ Total.sheetAfter book sheet
-    → (r ≡ bookRefusal answered) × ((ns ≡ totals answered) × ((x ≡ Total.sheetAfter book sheet) × Demanded book (told r ns)))
-promised book sheet e es laid = (e, (es, (laid, subst (Demanded book) (sym (ap₂ told e es ∙ told-again book sheet)) (demanded book sheet))))
+promised : {r : ℕ} {ns x : List ℕ} (book sheet : List ℕ) → let answer = Total.total book sheet in
+    r ≡ bookRefusal answer → ns ≡ totals answer → x ≡ Total.sheetAfter book sheet
+    → (r ≡ bookRefusal answer) × ((ns ≡ totals answer) × ((x ≡ Total.sheetAfter book sheet) × Demanded book (answered r ns)))
+promised book sheet e es stored = (e, (es, (stored, subst (Demanded book) (sym (ap₂ answered e es ∙ answered-again book sheet)) (demanded book sheet))))
 
 returns : tie.Need-returns
 returns c = promised _ _ (search (by-case answer bookRefusal)) (search (by-case answer totals)) (search)

@@ -9,19 +9,19 @@ use Rattle.biomass.specs.Law.Report.{stops, follows, stop-unless, past-unless}
 use Rattle.codec.specs.Refusal.{number}
 use Rattle.codec.specs.declared.command.Command.{Command}
 use Rattle.codec.specs.declared.refusal.Refusal.{Refusal}
-use Rattle.fieldbook.specs.Numbers.{made, commandOf}
+use Rattle.fieldbook.specs.Numbers.{converted, commandOf}
 use Rattle.fieldbook.specs.Numbers as Numbers
-use Rattle.fieldbook.specs.declared.commands.Made.{Made}
+use Rattle.fieldbook.specs.declared.commands.Converted.{Converted}
 use Rattle.fieldbook.proofs.commands.command_of.Statement.{statement}
 use Rattle.fieldbook.proofs.commands.command_of.Tie as tie
 
 -- what follows the command that was cut, or that there is none
-module _ {first : Report Command} (answer : Made) (f : Command → Report Command) (promise : made answer ≡ first) where
-  was-cut : {k : Command} {x : Report Command} → answer ≡ Made.Is k → x ≡ f k → x ≡ (first then f)
-  was-cut is = follows first f (sym promise ∙ ap made is)
+module _ {first : Report Command} (answer : Converted) (f : Command → Report Command) (promise : converted answer ≡ first) where
+  was-cut : {k : Command} {x : Report Command} → answer ≡ Converted.Is k → x ≡ f k → x ≡ (first then f)
+  was-cut is = follows first f (sym promise ∙ ap converted is)
 
-  not-cut : {why : Refusal} → answer ≡ Made.Refused why → refused (number why) ≡ (first then f)
-  not-cut is = stops first f (sym promise ∙ ap made is)
+  not-cut : {why : Refusal} → answer ≡ Converted.Refused why → refused (number why) ≡ (first then f)
+  not-cut is = stops first f (sym promise ∙ ap converted is)
 
 -- what the code's test says of the command's own numbers
 compared : {answer test : Bool} {l m : List ℕ} (ns : List ℕ) → l ≡ m → answer ≡ Numbers.same l ns → answer ≡ test → Numbers.same m ns ≡ test

@@ -16,7 +16,7 @@ use Rattle.fieldbook.specs.Numbers.{commandOf}
 use Rattle.fieldbook.specs.Numbers as Numbers
 use Rattle.fieldbook.specs.Layout.{refusal, writeNumbers, nextPlace}
 use Rattle.fieldbook.specs.Layout as Layout
-use Rattle.fieldbook.specs.declared.commands.Made.{Made}
+use Rattle.fieldbook.specs.declared.commands.Converted.{Converted}
 use Rattle.fieldbook.proofs.commands.fieldbook_write.Statement.{statement}
 use Rattle.fieldbook.proofs.commands.fieldbook_write.Tie as tie
 
@@ -33,20 +33,20 @@ module _ (b : List ℕ) (at : ℕ) (ns : List ℕ) where
   declined is laid = (ap refusal is, (laid, ap (nextPlace at) is))
 
   -- what the numbers stand for, by its case: no command, or one
-  module _ (m : Made) (stands : Numbers.made m ≡ commandOf ns) where
-    not-made : {r : ℕ} {why : Refusal} → m ≡ Made.Refused why → r ≡ number why → refused r ≡ writeNumbers b at ns
-    not-made is e = ap refused e ∙ stops (commandOf ns) (write b at) (sym stands ∙ ap Numbers.made is)
+  module _ (m : Converted) (stands : Numbers.converted m ≡ commandOf ns) where
+    not-made : {r : ℕ} {why : Refusal} → m ≡ Converted.Refused why → r ≡ number why → refused r ≡ writeNumbers b at ns
+    not-made is e = ap refused e ∙ stops (commandOf ns) (write b at) (sym stands ∙ ap Numbers.converted is)
 
-    kept : {why : Refusal} → m ≡ Made.Refused why → b ≡ Layout.bufferAfter b at (commandOf ns)
-    kept is = ap (Layout.bufferAfter b at) (sym (ap Numbers.made is) ∙ stands)
+    kept : {why : Refusal} → m ≡ Converted.Refused why → b ≡ Layout.bufferAfter b at (commandOf ns)
+    kept is = ap (Layout.bufferAfter b at) (sym (ap Numbers.converted is) ∙ stands)
 
-    laid : {k : Command} {x : List ℕ} → m ≡ Made.Is k → x ≡ Writing.bufferAfter b at k → x ≡ Layout.bufferAfter b at (commandOf ns)
-    laid is e = e ∙ ap (Layout.bufferAfter b at) (sym (ap Numbers.made is) ∙ stands)
+    laid : {k : Command} {x : List ℕ} → m ≡ Converted.Is k → x ≡ Writing.bufferAfter b at k → x ≡ Layout.bufferAfter b at (commandOf ns)
+    laid is e = e ∙ ap (Layout.bufferAfter b at) (sym (ap Numbers.converted is) ∙ stands)
 
     -- and the answer of writing it
-    module _ {k : Command} (is : m ≡ Made.Is k) (w : Written) (promise : writing w ≡ write b at k) where
+    module _ {k : Command} (is : m ≡ Converted.Is k) (w : Written) (promise : writing w ≡ write b at k) where
       written : writing w ≡ writeNumbers b at ns
-      written = follows (commandOf ns) (write b at) (sym stands ∙ ap Numbers.made is) promise
+      written = follows (commandOf ns) (write b at) (sym stands ∙ ap Numbers.converted is) promise
 
       was-written : {next : ℕ} → w ≡ Written.Next next → gives next ≡ writeNumbers b at ns
       was-written e = sym (ap writing e) ∙ written

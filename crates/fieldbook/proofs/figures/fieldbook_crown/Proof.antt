@@ -5,7 +5,7 @@ use Rattle.fieldbook.proofs.figures.fieldbook_crown.Statement.{statemen
 use Rattle.fieldbook.proofs.figures.fieldbook_crown.Tie as tie
 
 returns : tie.Need-returns
-returns c = handed ends (c .lay-biomass .ensures) (c .before .before .crown .ensures)
+returns c = handed ends (c .store-biomass .ensures) (c .before .before .crown .ensures)
 
 pub fieldbook-crown-spec : {M : Type 1} → statement M
 fieldbook-crown-spec =

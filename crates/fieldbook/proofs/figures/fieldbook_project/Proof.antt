@@ -5,7 +5,7 @@ use Rattle.fieldbook.proofs.figures.fieldbook_project.Statement.{statem
 use Rattle.fieldbook.proofs.figures.fieldbook_project.Tie as tie
 
 returns : tie.Need-returns
-returns c = handed carbonEnds (c .lay-carbon .ensures) (c .before .before .project .ensures)
+returns c = handed carbonEnds (c .store-carbon .ensures) (c .before .before .project .ensures)
 
 pub fieldbook-project-spec : {M : Type 1} → statement M
 fieldbook-project-spec =

@@ -5,7 +5,7 @@ use Rattle.fieldbook.proofs.figures.fieldbook_root.Statement.{statement
 use Rattle.fieldbook.proofs.figures.fieldbook_root.Tie as tie
 
 returns : tie.Need-returns
-returns c = handed ends (c .lay-biomass .ensures) (c .before .before .root .ensures)
+returns c = handed ends (c .store-biomass .ensures) (c .before .before .root .ensures)
 
 pub fieldbook-root-spec : {M : Type 1} → statement M
 fieldbook-root-spec =

@@ -9,7 +9,7 @@ use Rattle.fieldbook.proofs.figures.fieldbook_row.Tie as tie
 returns : tie.Need-returns
 returns c =
     let called = c .before .before in
-    handed ends (c .lay-biomass .ensures) (called .row .ensures ∙ ap (Tree.row _) (called .before .average-tree .ensures))
+    handed ends (c .store-biomass .ensures) (called .row-biomass .ensures ∙ ap (Tree.rowBiomass _) (called .before .average-tree .ensures))
 
 pub fieldbook-row-spec : {M : Type 1} → statement M
 fieldbook-row-spec =

@@ -5,7 +5,7 @@ use Rattle.fieldbook.proofs.figures.fieldbook_stem.Statement.{statement
 use Rattle.fieldbook.proofs.figures.fieldbook_stem.Tie as tie
 
 returns : tie.Need-returns
-returns c = handed ends (c .lay-biomass .ensures) (c .before .before .stem .ensures)
+returns c = handed ends (c .store-biomass .ensures) (c .before .before .stem .ensures)
 
 pub fieldbook-stem-spec : {M : Type 1} → statement M
 fieldbook-stem-spec =

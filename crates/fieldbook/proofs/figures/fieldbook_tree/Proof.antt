@@ -9,7 +9,7 @@ use Rattle.fieldbook.proofs.figures.fieldbook_tree.Tie as tie
 returns : tie.Need-returns
 returns c =
     let called = c .before .before in
-    handed ends (c .lay-biomass .ensures) (called .tree .ensures ∙ ap Tree.tree (called .before .average-tree .ensures))
+    handed ends (c .store-biomass .ensures) (called .tree .ensures ∙ ap Tree.tree (called .before .average-tree .ensures))
 
 pub fieldbook-tree-spec : {M : Type 1} → statement M
 fieldbook-tree-spec =

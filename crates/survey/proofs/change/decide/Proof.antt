@@ -4,7 +4,7 @@ use mathlib.Core.Path.{_≡_, _∙_, sym, ap}
 use mathlib.Core.Bool.{Bool}
 use mathlib.Core.List.{List}
 use Rattle.biomass.specs.Report.{Report}
-use Rattle.survey.specs.Change.{notes, changeOf}
+use Rattle.survey.specs.Change.{updates, changeOf}
 use Rattle.codec.specs.declared.command.Command.{Command}
 use Rattle.line.specs.declared.line.Line.{Line}
 use Rattle.survey.specs.declared.change.Change.{Change}
@@ -19,8 +19,8 @@ by-case : {k d : Command} {x : Report Change} (v : Seen) (l : Line) (factors : L
 by-case v l factors is e = e ∙ ap (λ (k : Command). changeOf k v l factors) (sym is)
 
 -- and what became of the line is what the line's routine promises
-by-line : {answered after : Report Line} {x : Report Change} (active : Bool) → answered ≡ after → x ≡ notes active answered → x ≡ notes active after
-by-line active promise e = e ∙ ap (notes active) promise
+by-line : {answered after : Report Line} {x : Report Change} (active : Bool) → answered ≡ after → x ≡ updates active answered → x ≡ updates active after
+by-line active promise e = e ∙ ap (updates active) promise
 
 ruleset checks = (stop-when, past-when, by-case, by-line)
 

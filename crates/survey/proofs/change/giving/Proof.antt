@@ -10,7 +10,7 @@ use Rattle.survey.proofs.change.giving.Tie as tie
 
 -- the table has a place for each cm that is in range
 in-table : {answer : Bool} {cm : ℕ} → answer ≡ inside 7 cm 100 → not answer ≡ false → cm < 101
-in-table told passed = suc-le-suc (in-range told passed .most)
+in-table decision passed = suc-le-suc (in-range decision passed .most)
 
 pub giving-spec : {M : Type 1} → statement M
 giving-spec =

@@ -14,9 +14,9 @@ use Rattle.codec.specs.Reading.{read, reading}
 use Rattle.survey.specs.Survey.{fresh, withLine, withEnd, opened}
 use Rattle.survey.specs.Change.{changed}
 use Rattle.survey.specs.Playing.{Played, playFrom, play}
-use Rattle.survey.specs.Noting.{noting}
-use Rattle.survey.specs.Law.Change.{Made, decides, not-ended-seen}
-use Rattle.survey.specs.Law.Playing.{plays-refused, plays-after-end, On, plays-taken, plays-declined, plays-unread, note-refused, plays-noted}
+use Rattle.survey.specs.LineUpdate.{lineUpdate}
+use Rattle.survey.specs.Law.Change.{ChangeMade, decides, not-ended-seen}
+use Rattle.survey.specs.Law.Playing.{plays-refused, plays-after-end, On, plays-taken, plays-declined, plays-unread, update-refused, plays-updated}
 use Rattle.codec.specs.declared.command.Command.{Command}
 use Rattle.survey.specs.declared.survey.Survey.{Survey}
 use Rattle.survey.specs.declared.change.Change.{Change}
@@ -56,8 +56,8 @@ noted-on : (c : tie.After-after Inv-loop μ-loop Inv-lines μ-lines) →
 noted-on c =
     let turn = c .before .before .before in
     let at = turn .before in
-    let is = sym (c .before .before .note .ensures) ∙ ap noting (c .after .given .1) in
-    plays-noted (book-in at) (at .loop .at) (survey-in at) (at .loop .line) _ _ (not-ended at) (turn .loop-test .taken) is
+    let is = sym (c .before .before .update-line .ensures) ∙ ap lineUpdate (c .after .given .1) in
+    plays-updated (book-in at) (at .loop .at) (survey-in at) (at .loop .line) _ _ (not-ended at) (turn .loop-test .taken) is
 
 -- Where a command is decided: after which turn, and what was read
 abbrev read-of : tie.After-decide Inv-loop μ-loop Inv-lines μ-lines → tie.After-command Inv-loop μ-loop Inv-lines μ-lines
@@ -76,9 +76,9 @@ read-so : (d : tie.After-decide Inv-loop μ-loop Inv-lines μ-lines) → read (b
 read-so d = sym (read-of d .before .before .read .ensures .0) ∙ ap reading (read-of d .command .given .1)
 
 -- what is decided is what the command makes of the survey
-made : (d : tie.After-decide Inv-loop μ-loop Inv-lines μ-lines) → Made (command-of d) (survey-at (in-line d)) (d .decide .result)
+change-made : (d : tie.After-decide Inv-loop μ-loop Inv-lines μ-lines) → ChangeMade (command-of d) (survey-at (in-line d)) (d .decide .result)
 unfolding opened
-made d =
+change-made d =
     let seen = d .before .before .before in
     let named = seen .before .before .before in
     decides _ _ (named .names .result) _ _ (named .names .ensures)
@@ -91,7 +91,7 @@ module _ (d : tie.After-decide Inv-loop μ-loop Inv-lines μ-lines) {change : Ch
   moved : On (book-in (in-line d)) (in-line d .loop .at) (survey-at (in-line d)) (next-of d) t
   moved =
       let s = survey-at (in-line d) in
-      plays-taken _ _ s _ _ (read-so d) t (not-ended (in-line d)) (made d .is ∙ ap (λ (k : Change). changed k s) is ∙ stored)
+      plays-taken _ _ s _ _ (read-so d) t (not-ended (in-line d)) (change-made d .is ∙ ap (λ (k : Change). changed k s) is ∙ stored)
 
   on : playFrom (book-in (in-line d)) (next-of d) t ≡ play (book-in (in-line d))
   on = sym (moved .plays) ∙ in-line d .loop .inv .2
@@ -128,8 +128,8 @@ returns c =
     let known = c .before .before in
     let turn = known .before .before .before in
     let at = turn .before in
-    let is = sym (known .before .before .note .ensures) ∙ ap noting (known .why .given .1) in
-    let refuses = note-refused (book-in at) (at .loop .at) (survey-in at) (at .loop .line) _ (not-ended at) (turn .loop-test .taken) is in
+    let is = sym (known .before .before .update-line .ensures) ∙ ap lineUpdate (known .why .given .1) in
+    let refuses = update-refused (book-in at) (at .loop .at) (survey-in at) (at .loop .line) _ (not-ended at) (turn .loop-test .taken) is in
     halted (c .stop .ensures) (survey-in at) ∙ sym (plays-refused (book-in at) (at .loop .at) (withLine (survey-in at) (at .loop .line)) _ (not-ended at) refuses) ∙ at .loop .inv .2
 
 returns-2 : tie.Need-returns-2 Inv-loop μ-loop Inv-lines μ-lines
@@ -151,7 +151,7 @@ returns-4 c =
     let known = c .before .before in
     let d = known .before .before in
     let at = in-line d in
-    let is = made d .is ∙ ap (λ (k : Change). changed k (survey-at at)) (known .why3 .given .1) in
+    let is = change-made d .is ∙ ap (λ (k : Change). changed k (survey-at at)) (known .why3 .given .1) in
     halted (c .stop3 .ensures) (survey-at at) ∙ sym (plays-declined (book-in at) (at .loop .at) (survey-at at) _ _ (read-so d) _ (not-ended at) is) ∙ at .loop .inv .2
 
 pub play-spec : {M : Type 1} → statement M
@@ -184,16 +184,16 @@ play-spec =
     (λ c κs. tt)
     (λ c. c .match3 .keys1)
     (λ c. omega arith)
-    (λ c. omega (arith, species-place _ (made (c .before .before .before) .place) (c .before .id .given .1)))
-    (λ c. species-place _ (made (c .before .before .before) .place) (c .before .id .given .1))
+    (λ c. omega (arith, species-place _ (change-made (c .before .before .before) .place) (c .before .id .given .1)))
+    (λ c. species-place _ (change-made (c .before .before .before) .place) (c .before .id .given .1))
     (λ c. c .match3 .keys2)
     (λ c. omega arith)
-    (λ c. factor-place _ (made (c .before .before .before) .place) (c .before .cm .given .1))
+    (λ c. factor-place _ (change-made (c .before .before .before) .place) (c .before .cm .given .1))
     (λ c. c .match3 .keys3)
     (λ c. c .match3 .keys4)
-    (λ c. omega (arith, row-place _ (made (c .before .before .before) .place) (c .before .row .given .1)))
-    (λ c. row-place _ (made (c .before .before .before) .place) (c .before .row .given .1))
-    (λ c. omega (arith, row-place _ (made (c .before .before .before) .place) (c .before .row .given .1)))
+    (λ c. omega (arith, row-place _ (change-made (c .before .before .before) .place) (c .before .row .given .1)))
+    (λ c. row-place _ (change-made (c .before .before .before) .place) (c .before .row .given .1))
+    (λ c. omega (arith, row-place _ (change-made (c .before .before .before) .place) (c .before .row .given .1)))
     (λ c. c .match3 .keys5)
     (λ c κs. tt)
     (λ c. c .match3 .keys6)

@@ -50,12 +50,12 @@ use denote.Triple.Walked.{Stays, stay-none, stay-none-slice, walkOf, goes-none, 
 use denote.Exit.{yes}
 use Rattle.codec.specs.Reading.{reading, read, placeAfter}
 use Rattle.survey.specs.declared.reader.BookReader.{BookReader}
-use Rattle.survey.specs.declared.reader.Onward.{Onward}
+use Rattle.survey.specs.declared.reader.Advance.{Advance}
 use Rattle.codec.specs.declared.reading.Reading.{Reading}
-use Rattle.survey.proofs.Held.{moved, Answered, Reader, declared, laws, Own, InLocal, at-fits, own-moved, lies-in, lies-out, gave, says-both}
+use Rattle.survey.proofs.ReaderWalk.{moved, Answered, Reader, declared, laws, Own, InLocal, at-fits, own-moved, lies-in, lies-out, gave, says-both}
 use Rattle.survey.proofs.reader.BookReader.Laws as T′
-use Rattle.survey.proofs.reader.Onward as O
-use Rattle.survey.proofs.reader.Onward.Laws as O′
+use Rattle.survey.proofs.reader.Advance as O
+use Rattle.survey.proofs.reader.Advance.Laws as O′
 use Rattle.codec.proofs.reading.Reading as S
 use Rattle.codec.proofs.reading.Reading.Laws as S′
 use Rattle.survey.proofs.reader.BookReader.new as new
@@ -168,24 +168,24 @@ module _ {M : Type 1} (𝓤 : URA M) (H : Heap 𝓤) (A : Atoms 𝓤) (W : Given
       ‵ (lasts next.ended (κs ν) (lent h l δ, tt) zs) ⊛ (raw (fact 𝓤 (Answered h t)) ⊛ raw (fact 𝓤 (Went h t (zs .0)))))
 
   -- ---- the exit: the result, its machine value and what it owns
-  abbrev made : Reading → BookReader → Onward
-  made t z = record { reading = t; at = z .at }
+  abbrev built : Reading → BookReader → Advance
+  built t z = record { reading = t; at = z .at }
 
-  abbrev made-val : Reading → BookReader → Val
-  made-val t z = vstruct (vcons (EL.val S.the-type S′.the-laws t) (vcons (vint w64 (z .at)) vnil))
+  abbrev built-val : Reading → BookReader → Val
+  built-val t z = vstruct (vcons (EL.val S.the-type S′.the-laws t) (vcons (vint w64 (z .at)) vnil))
 
-  abbrev Made : Reading → BookReader → Fml
-  Made t z = O.the-row .own (made t z) (made-val t z ∷ [])
+  abbrev Built : Reading → BookReader → Fml
+  Built t z = O.the-row .own (built t z) (built-val t z ∷ [])
 
   abbrev at-exit : Reading → BookReader → List (Item 𝓤)
-  at-exit t z = ‵ (Made t z) ∷ ‵ (flft κ (right q)) ∷ (‵ (flft κ (left q)) ⊛ ‵ ftrue) ∷ ‵ Book ∷ []
+  at-exit t z = ‵ (Built t z) ∷ ‵ (flft κ (right q)) ∷ (‵ (flft κ (left q)) ⊛ ‵ ftrue) ∷ ‵ Book ∷ []
 
   exits : (r : BookReader) (t : Reading) (z : BookReader) → Fresh r → Answered (moved r n) t → Went (moved r n) t z
-      → ent 𝓤 (⋆ 𝓤 H A (at-exit t z)) (Post (made-val t z))
+      → ent 𝓤 (⋆ 𝓤 H A (at-exit t z)) (Post (built-val t z))
   exits r t z e answered went =
       qed W (at-exit t z) ∵
       suffices ! _
-      (ends-at 𝓤 H A command-at.ended stayed (command-at.clauses 𝓤 H A at-mem run) W (((κ, tt), (q, tt), tt, (s, (n, tt)), vals), tt) (made-val t z) (made t z)
+      (ends-at 𝓤 H A command-at.ended stayed (command-at.clauses 𝓤 H A at-mem run) W (((κ, tt), (q, tt), tt, (s, (n, tt)), vals), tt) (built-val t z) (built t z)
       (tt, (tt, tt)) (tt, (tt, tt))) $
       says-both ! (answered ∙ ap (λ (x : BookReader). read (now (x .book)) n) e) (ap (λ (x : BookReader). x .at) went) $
       move ! (2 ∷ []) $ split ! $ move ! (0 ∷ 3 ∷ []) $ use2 W (‵ (flft κ q)) (W .lfts .lft-join κ q) $ join ! $ frame ! $
@@ -245,10 +245,10 @@ module _ {M : Type 1} (𝓤 : URA M) (H : Heap 𝓤) (A : Atoms 𝓤) (W : Given
         (init ! 8 refl (tt, record { fits = at-fits α (zs .0) last })) $
         -- the result is made of the answer and the number
         move ! (4 ∷ []) $ nothing ! $ owned ! usize (Is usize) (uint-makes 𝓤 H A W w64) (zs .0 .at) _ (refl, at-fits α (zs .0) last) $ fjoin ! $
-        move ! (1 ∷ 0 ∷ []) $ fjoin ! $ use1 W (‵ (Made t (zs .0))) (own-shut 𝓤 H A W O.the-type O′.the-laws (t, (zs .0 .at, tt))) $
-        peeks ! O.the-row (Is O.the-row) (shows 𝓤 H A O.the-row) (made t (zs .0)) (made-val t (zs .0) ∷ []) (λ all.
+        move ! (1 ∷ 0 ∷ []) $ fjoin ! $ use1 W (‵ (Built t (zs .0))) (own-shut 𝓤 H A W O.the-type O′.the-laws (t, (zs .0 .at, tt))) $
+        peeks ! O.the-row (Is O.the-row) (shows 𝓤 H A O.the-row) (built t (zs .0)) (built-val t (zs .0) ∷ []) (λ all.
         assigns ! (agg ! (and-then ! (load ! (from ! (stop !)) (look ! 14 refl)) (and-then ! (load ! (from ! (stop !)) (look ! 8 refl)) (no-more !))))
-        (from ! (stop !)) (init ! 21 refl (LL.lawful O.the-type O′.the-laws 𝓤 H A W .typed (made t (zs .0)) _ all .0)) $
+        (from ! (stop !)) (init ! 21 refl (LL.lawful O.the-type O′.the-laws 𝓤 H A W .typed (built t (zs .0)) _ all .0)) $
         returns ! (look ! 21 refl) $ forget ! 8 refl $ forget ! 10 refl $ forget ! 12 refl $ forget ! 14 refl $
         forget ! 2 refl $ forget ! 17 refl $ forget ! 19 refl $ forget ! 21 refl $
         move ! (21 ∷ 22 ∷ []) $ free1 ! $ move ! (19 ∷ 20 ∷ []) $ free1 ! $ move ! (17 ∷ 18 ∷ []) $ free1 ! $ move ! (2 ∷ 16 ∷ []) $ free1 ! $

@@ -8,7 +8,7 @@ use mathlib.Core.List.{List, _∷_}
 use lib.ListN.{length}
 use Rattle.biomass.specs.Report.{gives}
 use Rattle.codec.specs.Reading.{reading, read, placeAfter}
-use Rattle.survey.specs.Book.{Reach, reach, counted}
+use Rattle.survey.specs.Reader.{Reach, reach, counted}
 use Rattle.codec.specs.Law.RoundTrip.{read-moves}
 use Rattle.survey.specs.Law.Reach.{reach-refused, reach-on}
 use Rattle.codec.specs.declared.command.Command.{Command}

@@ -12,7 +12,7 @@ use Rattle.line.specs.Law.Row.{length-row}
 use Rattle.line.specs.declared.row.Row.{Row}
 use Rattle.survey.specs.Survey.{mostLines}
 use Rattle.survey.specs.Sheet.{sheetBytes}
-use Rattle.survey.specs.Law.Sheet.{laid-one-more, laid-length}
+use Rattle.survey.specs.Law.Sheet.{stored-one-more, stored-length}
 use Rattle.survey.proofs.sheet.store_rows.Statement.{statement}
 use Rattle.survey.proofs.sheet.store_rows.Tie as tie
 
@@ -32,7 +32,7 @@ as-long c =
     let a = c .before .before .args in
     let most : c .loop .i ≤ mostLines = omega arith in
     let rows : c .loop .i ≤ length (a .t2) = omega arith in
-    ap length (c .loop .inv .1) ∙ laid-length (a .sheet .now) (take (c .loop .i) (a .t2)) (omega (arith, length-take-le (c .loop .i) (a .t2) rows))
+    ap length (c .loop .inv .1) ∙ stored-length (a .sheet .now) (take (c .loop .i) (a .t2)) (omega (arith, length-take-le (c .loop .i) (a .t2) rows))
 
 -- a row for which there is room is stored
 row-stored : {c : List ℕ} (b : List ℕ) (at : ℕ) (r : Row) → at + rowLength ≤ length b → c ≡ store b at (rowBytes r) → c ≡ storedAt b at (rowBytes r)
@@ -45,7 +45,7 @@ loop-again c =
     let i = l .loop .i in
     let inside : i < length (a .t2) = omega arith in
     let now = row-stored (l .loop .sheet) (rowLength * i) _ (omega (arith, as-long l)) (c .before .before .store-row .ensures) in
-    (omega arith, now ∙ rw (l .loop .inv .1) (laid-one-more (a .sheet .now) (a .t2) i _ inside))
+    (omega arith, now ∙ rw (l .loop .inv .1) (stored-one-more (a .sheet .now) (a .t2) i _ inside))
 
 same-length : tie.Need-same-length Inv-loop μ-loop
 same-length c = as-long (c .before)

@@ -9,7 +9,7 @@ use Rattle.biomass.specs.Limits.{mostEstimated}
 use Rattle.biomass.specs.Ends.{between}
 use Rattle.biomass.specs.Law.Tree.{greatestRow}
 use Rattle.survey.specs.Survey.{mostLines}
-use Rattle.survey.specs.Total.{sumOf, treesOf, lowOf, highOf}
+use Rattle.survey.specs.Total.{sumOf, rowTrees, lowOf, highOf}
 use Rattle.survey.specs.Law.Sums.{first-small, sums-small, sum-one-more}
 use Rattle.line.specs.declared.row.Row.{Row}
 use Rattle.survey.proofs.total.add.Statement.{statement}
@@ -18,7 +18,7 @@ use Rattle.survey.proofs.total.add.Tie as tie
 abbrev Inv-loop : tie.InvT-loop
 Inv-loop closed rows trees₀ low₀ high₀ i₀ trees low high i =
     (i ≤ closed)
-    × (trees ≡ sumOf treesOf (take i rows))
+    × (trees ≡ sumOf rowTrees (take i rows))
     × (low ≡ sumOf lowOf (take i rows))
     × (high ≡ sumOf highOf (take i rows))
 
@@ -49,7 +49,7 @@ grown c figure is =
 -- and stays within 32 of the greatest rows
 bounded : (c : tie.In-loop Inv-loop μ-loop) →
     let first = take (c .before .loop .i + 1) (c .before .before .args .t1) in
-    (sumOf treesOf first ≤ mostEstimated * mostLines) × (sumOf lowOf first ≤ greatestRow * mostLines) × (sumOf highOf first ≤ greatestRow * mostLines)
+    (sumOf rowTrees first ≤ mostEstimated * mostLines) × (sumOf lowOf first ≤ greatestRow * mostLines) × (sumOf highOf first ≤ greatestRow * mostLines)
 bounded c =
     let rows = c .before .before .args .t1 in
     let i = c .before .loop .i in
@@ -60,12 +60,12 @@ bounded c =
 cast-trees : tie.Need-cast-trees Inv-loop μ-loop
 cast-trees c =
     let t = c .before .before .before in
-    omega (arith, grown t treesOf (t .before .loop .inv .1), bounded t .0)
+    omega (arith, grown t rowTrees (t .before .loop .inv .1), bounded t .0)
 
 add-trees : tie.Need-add-trees Inv-loop μ-loop
 add-trees c =
     let t = c .before .before .before in
-    omega (arith, grown t treesOf (t .before .loop .inv .1), bounded t .0)
+    omega (arith, grown t rowTrees (t .before .loop .inv .1), bounded t .0)
 
 add-low : tie.Need-add-low Inv-loop μ-loop
 add-low c =
@@ -81,7 +81,7 @@ loop-again : tie.Need-loop-again Inv-loop μ-loop
 loop-again c =
     let t = c .before .before .before .before .before in
     let inv = t .before .loop .inv in
-    (omega arith, grown t treesOf (inv .1), grown t lowOf (inv .2), grown t highOf (inv .3))
+    (omega arith, grown t rowTrees (inv .1), grown t lowOf (inv .2), grown t highOf (inv .3))
 
 returns : tie.Need-returns Inv-loop μ-loop
 returns c =
@@ -90,7 +90,7 @@ returns c =
     let rows = c .before .before .args .t1 in
     let whole : (figure : Row → ℕ) → sumOf figure (take (c .before .loop .i) rows) ≡ sumOf figure (take (c .before .before .args .closed) rows) =
     λ figure. ap (λ (n : ℕ). sumOf figure (take n rows)) all in
-    (inv .1 ∙ whole treesOf, ap₂ between (inv .2 ∙ whole lowOf) (inv .3 ∙ whole highOf))
+    (inv .1 ∙ whole rowTrees, ap₂ between (inv .2 ∙ whole lowOf) (inv .3 ∙ whole highOf))
 
 pub add-spec : {M : Type 1} → statement M
 add-spec =

@@ -11,7 +11,7 @@ use Rattle.survey.specs.Playing.{Played, ended, stopped, played, play}
 use Rattle.survey.specs.Survey.{mostLines}
 use Rattle.codec.specs.Bytes.{storedAt}
 use Rattle.survey.specs.Sheet.{sheetLength, sheetBytes, rowsOf}
-use Rattle.survey.specs.Total.{Answer, refusedAt, totalled, totalOf, answerOf, total, laidBy, sheetAfter}
+use Rattle.survey.specs.Total.{Answer, refusedAt, totalled, totalOf, answerOf, total, storedBy, sheetAfter}
 use Rattle.survey.specs.Law.Playing.{play-valid}
 use Rattle.survey.specs.Law.Sums.{RowsSmall}
 use Rattle.survey.specs.Law.Sheet.{sheet-as-long}
@@ -57,8 +57,8 @@ module _ (book : List ℕ) (p : Code.Played) (promise : played p ≡ play book) 
     answers : {r : Answer} {q : Played} → play book ≡ q → r ≡ answerOf q → r ≡ total book sheet
     answers is e = e ∙ ap answerOf (sym is) ∙ rw (total-applied book sheet, le-ltb)
 
-    lays : {x : List ℕ} {q : Played} → play book ≡ q → x ≡ laidBy sheet q → x ≡ sheetAfter book sheet
-    lays is e = e ∙ ap (laidBy sheet) (sym is) ∙ rw (sheet-applied book sheet, le-ltb)
+    lays : {x : List ℕ} {q : Played} → play book ≡ q → x ≡ storedBy sheet q → x ≡ sheetAfter book sheet
+    lays is e = e ∙ ap (storedBy sheet) (sym is) ∙ rw (sheet-applied book sheet, le-ltb)
 
     -- a refusal leaves the sheet as it was
     refusal-answer : {why : Refusal} → p .outcome ≡ Outcome.Refused why → refusedAt (number why) (p .at) ≡ total book sheet

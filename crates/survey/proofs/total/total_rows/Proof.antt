@@ -9,16 +9,16 @@ use borrow.Author.Needs.{needs}
 use Rattle.biomass.specs.Report.{carbon, gives}
 use Rattle.biomass.specs.Project.{projectOf, project}
 use Rattle.biomass.specs.Law.Gives.{never, figure-is}
-use Rattle.biomass.specs.declared.answer.Carbon.{Carbon}
-use Rattle.biomass.specs.declared.answer.Refusal.{Refusal}
+use Rattle.biomass.specs.declared.report.Carbon.{Carbon}
+use Rattle.biomass.specs.declared.report.Refusal.{Refusal}
 use Rattle.biomass.specs.declared.units.BiomassRange.{BiomassRange}
 use Rattle.biomass.specs.declared.units.CarbonRange.{CarbonRange}
 use Rattle.survey.specs.Survey.{mostLines}
 use Rattle.survey.specs.Sheet.{sheetLength, sheetBytes}
 use Rattle.codec.specs.Bytes.{storedAt}
-use Rattle.survey.specs.Total.{totalled, sumOf, treesOf, sums, totalOf}
+use Rattle.survey.specs.Total.{totalled, sumOf, rowTrees, sums, totalOf}
 use Rattle.survey.specs.Law.Sums.{RowsSmall, project-gives}
-use Rattle.survey.specs.Law.Sheet.{laid-length}
+use Rattle.survey.specs.Law.Sheet.{stored-length}
 use Rattle.line.specs.declared.row.Row.{Row}
 use Rattle.survey.proofs.total.total_rows.Statement.{statement}
 use Rattle.survey.proofs.total.total_rows.Tie as tie
@@ -33,12 +33,12 @@ module _ (all : List Row) (closed : ℕ) (small : RowsSmall (take closed all)) (
   number-is = length-take-le closed all (omega arith)
 
   as-long : {x : List ℕ} (sheet : List ℕ) → sheetLength ≤ length sheet → x ≡ storedAt sheet 0 (sheetBytes rows) → length x ≡ length sheet
-  as-long sheet room is = ap length is ∙ laid-length sheet rows (omega (arith, number-is))
+  as-long sheet room is = ap length is ∙ stored-length sheet rows (omega (arith, number-is))
 
   -- what `project` answers of their sums
-  module _ {trees : ℕ} {m : BiomassRange} (answer : Carbon) (trees-are : trees ≡ sumOf treesOf rows) (sums-are : m ≡ sums rows)
+  module _ {trees : ℕ} {m : BiomassRange} (answer : Carbon) (trees-are : trees ≡ sumOf rowTrees rows) (sums-are : m ≡ sums rows)
       (promise : carbon answer ≡ project m trees) where
-    figures : carbon answer ≡ gives (projectOf (sums rows) (sumOf treesOf rows))
+    figures : carbon answer ≡ gives (projectOf (sums rows) (sumOf rowTrees rows))
     figures = promise ∙ ap₂ project sums-are trees-are ∙ project-gives rows small (omega (arith, number-is))
 
     -- it does not decline them, and what it gives is the definition's

@@ -12,7 +12,7 @@ use Rattle.biomass.specs.Mean.{mean}
 use Rattle.biomass.specs.Law.Report.{Inside, stop-unless, past-unless, follows-count, stops-count, stop-when, past-when}
 use Rattle.biomass.specs.Law.Mean.{mean-gives}
 use Rattle.biomass.specs.Law.Tariff.{line-tariff-range}
-use Rattle.biomass.specs.declared.answer.Count.{Count}
+use Rattle.biomass.specs.declared.report.Count.{Count}
 use Rattle.line.proofs.line.Line.some_row.Statement.{statement}
 use Rattle.line.proofs.line.Line.some_row.Tie as tie
 

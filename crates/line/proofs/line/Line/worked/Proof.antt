@@ -22,8 +22,8 @@ worked-spec =
     (λ c κs. tt)
     (λ c.
     let why = c .before .before in
-    ap refused (c .of-figure .ensures) ∙ stops _ _ (sym (why .before .before .row .ensures) ∙ ap biomass (why .why .given .1)))
+    ap refused (c .of-figure .ensures) ∙ stops _ _ (sym (why .before .before .row-biomass .ensures) ∙ ap biomass (why .why .given .1)))
     (λ c. omega arith)
     (λ c. omega arith)
     (λ c. omega arith)
-    (λ c. follows _ _ (sym (c .before .before .before .row .ensures) ∙ ap biomass (c .before .m .given .1)) refl))
+    (λ c. follows _ _ (sym (c .before .before .before .row-biomass .ensures) ∙ ap biomass (c .before .m .given .1)) refl))

@@ -36,7 +36,7 @@ use denote.Triple.Table.{entered}
 use denote.Triple.Walked.{says, Stays, stay-none-slice, walkOf, goes-none-slice, Walks, ends-at, walked, walk-meets}
 use denote.Exit.{yes}
 use Rattle.survey.specs.declared.reader.BookReader.{BookReader}
-use Rattle.survey.proofs.Held.{declared, laws}
+use Rattle.survey.proofs.ReaderWalk.{declared, laws}
 use Rattle.survey.proofs.reader.BookReader.Laws as T′
 use Rattle.survey.proofs.reader.BookReader.new.Key.{name as #new}
 use Rattle.survey.proofs.reader.BookReader.new as new
@@ -61,17 +61,17 @@ module _ {M : Type 1} (𝓤 : URA M) (H : Heap 𝓤) (A : Atoms 𝓤) (W : Given
   abbrev at : List Val × Unit {0}
   at = (v ∷ [], tt)
 
-  abbrev made : BookReader
-  made = record { book = s; at = 0 }
+  abbrev built : BookReader
+  built = record { book = s; at = 0 }
 
   abbrev Post : Val → SProp 𝓤
   Post = walkOf 𝓤 H A new.ended stayed (new.clauses 𝓤 H A mem run) .post (((κ, tt), (q, tt), tt, (s, tt), at), tt)
 
-  exits : ent 𝓤 (onEntry 𝓤 H A new.signature (κ, tt) (q, tt) (s, tt) at) (Post (T′.lowered made))
+  exits : ent 𝓤 (onEntry 𝓤 H A new.signature (κ, tt) (q, tt) (s, tt) at) (Post (T′.lowered built))
   exits =
       qed W ((‵ (flft κ q) ⊛ ‵ ftrue) ∷ ‵ (owns (ShrSlice (named 0) κ u8 ∷ []) (s, tt) at) ∷ []) ∵
       suffices ! _
-      (ends-at 𝓤 H A new.ended stayed (new.clauses 𝓤 H A mem run) W (((κ, tt), (q, tt), tt, (s, tt), at), tt) (T′.lowered made) made (tt, tt) (tt, tt)) $
+      (ends-at 𝓤 H A new.ended stayed (new.clauses 𝓤 H A mem run) W (((κ, tt), (q, tt), tt, (s, tt), at), tt) (T′.lowered built) built (tt, tt) (tt, tt)) $
       says ! refl $ frame ! $ fsplit ! $ use1 W (‵ Book ⊛ ‵ Book) (shr-slice-copy 𝓤 H A W (named 0) κ u8 .twice s (v ∷ [])) $ split ! $
       move ! (0 ∷ 2 ∷ []) $ fjoin ! $ frame ! $
       -- [what the book owns]: what the fields own together, of it and of the number's facts, is what the struct owns

@@ -50,7 +50,7 @@ use Rattle.codec.specs.RoundTrip.{WritesBack}
 use Rattle.codec.specs.Reading.{reading, placeAfter}
 use Rattle.survey.specs.declared.reader.BookReader.{BookReader}
 use Rattle.codec.specs.declared.reading.Reading.{Reading}
-use Rattle.survey.proofs.Held.{moved, Answered, Reader, declared, laws, Own, Lying, Cell, at-fits, book-room, own-moved, cell-in, cell-out, gave, says-both}
+use Rattle.survey.proofs.ReaderWalk.{moved, Answered, Reader, declared, laws, Own, Lying, Cell, at-fits, book-room, own-moved, cell-in, cell-out, gave, says-both}
 use Rattle.survey.proofs.reader.BookReader.Laws as T′
 use Rattle.codec.proofs.reading.Reading as S
 use Rattle.codec.proofs.reading.Reading.Laws as S′

@@ -3,17 +3,17 @@ use mathlib.Core.Path.{_∙_, sym, ap}
 use mathlib.Core.Bool.{true≢false}
 use mathlib.Core.Logic.{⊎-elim}
 use Rattle.survey.specs.Survey.{leaves, opened}
-use Rattle.survey.specs.Law.Change.{Made, decides}
+use Rattle.survey.specs.Law.Change.{ChangeMade, decides}
 use borrow.Author.Needs.{needs}
 use Rattle.survey.proofs.survey.Survey.apply.Statement.{statement}
 use Rattle.survey.proofs.survey.Survey.apply.Tie as tie
 
 -- what is decided is what the command makes of the survey
-made : (c : tie.After-decide) →
+change-made : (c : tie.After-decide) →
     let start = c .before .before .before .before .before .before .before .before .args in
-    Made (start .command) (start .t1) (c .decide .result)
+    ChangeMade (start .command) (start .t1) (c .decide .result)
 unfolding opened
-made c =
+change-made c =
     let seen = c .before .before .before .before in
     let named = seen .before .before .before in
     decides _ _ (named .names .result) _ _ (named .names .ensures)
@@ -21,7 +21,7 @@ made c =
     (c .decide .ensures)
 
 returns : tie.Need-returns
-returns c = c .changed .ensures ∙ ap (leaves _) (sym (made (c .before) .is))
+returns c = c .changed .ensures ∙ ap (leaves _) (sym (change-made (c .before) .is))
 
 pub apply-spec : {M : Type 1} → statement M
 apply-spec =
@@ -33,5 +33,5 @@ apply-spec =
     (λ c. search needs)
     (λ c κs. tt)
     (λ c κs. tt)
-    (λ c κs. made c .place)
+    (λ c κs. change-made c .place)
     returns)

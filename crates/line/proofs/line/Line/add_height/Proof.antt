@@ -1,4 +1,4 @@
--- `line::line::Line::height` meets its contract: the single tariff's refusal is the line's, and then each test of the code is the definition's.
+-- `line::line::Line::add_height` meets its contract: the single tariff's refusal is the line's, and then each test of the code is the definition's.
 use Prim.Native.Nat.{ℕ, _≤_}
 use native.Mathlib.Nat.{le-trans}
 use mathlib.Core.Path.{_≡_, _∙_, sym, ap}
@@ -8,22 +8,22 @@ use lib.Dec.{lit≤}
 use Rattle.biomass.specs.Report.{count}
 use Rattle.biomass.specs.Law.Report.{stop-unless, past-unless, follows-count, stops-count, stop-when, past-when}
 use Rattle.biomass.specs.Law.Tariff.{single-tariff-range}
-use Rattle.biomass.specs.declared.answer.Count.{Count}
+use Rattle.biomass.specs.declared.report.Count.{Count}
 use Rattle.line.specs.Line.{tariffOf}
-use Rattle.line.specs.AnyLine.{mostTariffs, height}
+use Rattle.line.specs.AnyLine.{mostTariffs, addHeight}
 use Rattle.codec.specs.declared.command.Species.{Species}
 use Rattle.line.proofs.Limit.{above-limit, within-limit}
-use Rattle.line.proofs.line.Line.height.Statement.{statement}
-use Rattle.line.proofs.line.Line.height.Tie as tie
+use Rattle.line.proofs.line.Line.add_height.Statement.{statement}
+use Rattle.line.proofs.line.Line.add_height.Tie as tie
 
 small : (T : ℕ) (s : Species) (cm tenths : ℕ) {answer : Count} → count answer ≡ tariffOf s cm tenths → answer ≡ Count.Is T → T ≤ mostTariffs
 small T s cm tenths asked is = le-trans (single-tariff-range (s .c1) (s .c2) (s .c3) (s .c4) cm tenths T (sym asked ∙ ap count is) .most) (lit≤ tt)
 
 ruleset line-checks = (stop-when, past-when, stop-unless, past-unless, follows-count, stops-count, le-leb, lt-leb, above-limit, within-limit, small)
 
-pub height-spec : {M : Type 1} → statement M
-unfolding height
-height-spec =
+pub add-height-spec : {M : Type 1} → statement M
+unfolding addHeight
+add-height-spec =
     tie.close
     (tie.spec
     (λ c κs. tt)

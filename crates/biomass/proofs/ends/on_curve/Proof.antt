@@ -1,11 +1,11 @@
--- `biomass::part::on_curve` meets its contract: a coefficient below 2^20 and a power of at most 2^32 units have a product within 64 bits, and a quotient is not above
+-- `biomass::ends::on_curve` meets its contract: a coefficient below 2^20 and a power of at most 2^32 units have a product within 64 bits, and a quotient is not above
 -- what is divided.
 use mathlib.Core.Path.{refl}
 use Prim.Native.Nat.{_+_, _*_, _^_, _≤_}
 use native.Mathlib.Omega.{arith}
 use native.Mathlib.Nat.{mul-le-mul, le-of-lt, div-le-self}
-use Rattle.biomass.proofs.part.on_curve.Statement.{statement}
-use Rattle.biomass.proofs.part.on_curve.Tie as tie
+use Rattle.biomass.proofs.ends.on_curve.Statement.{statement}
+use Rattle.biomass.proofs.ends.on_curve.Tie as tie
 
 product : (c : tie.Start) → c .args .coefficient * (c .args .power + 1) ≤ 2 ^ 20 * 2 ^ 32
 product c = mul-le-mul {m₂ = 2 ^ 32} (le-of-lt (c .pre .1)) (omega arith)

@@ -1,4 +1,4 @@
--- `line::line::Line::measured` meets its contract: each test of the code is the definition's, in the same order. At most 65,535 trees of at most 100 cm
+-- `line::line::Line::add_trees` meets its contract: each test of the code is the definition's, in the same order. At most 65,535 trees of at most 100 cm
 -- come at a time, so that neither product nor sum wraps.
 use Prim.Native.Nat.{ℕ, _+_, _-_, _*_, _^_, _≤_, _<_}
 use native.Mathlib.Nat.{mul-le-mul, le-trans, lt-of-le-of-lt, le-of-lt}
@@ -11,10 +11,10 @@ use lib.Dec.{lit<, lit≤}
 use Rattle.biomass.specs.Whole.{inside}
 use Rattle.biomass.specs.Limits.{mostMeasured}
 use Rattle.biomass.specs.Law.Report.{refuses, goes-on, stop-unless, past-unless, in-range}
-use Rattle.line.specs.AnyLine.{mostSquares, measured}
+use Rattle.line.specs.AnyLine.{mostSquares, addTrees}
 use Rattle.line.proofs.Limit.{above-limit, within-limit}
-use Rattle.line.proofs.line.Line.measured.Statement.{statement}
-use Rattle.line.proofs.line.Line.measured.Tie as tie
+use Rattle.line.proofs.line.Line.add_trees.Statement.{statement}
+use Rattle.line.proofs.line.Line.add_trees.Tie as tie
 
 -- past the test of the class: its square, and so many of them
 module _ {answer : Bool} (class : ℕ) (told : answer ≡ inside 7 class 100) (passed : not answer ≡ false) where
@@ -38,9 +38,9 @@ trees-few count n = omega arith
 
 ruleset line-checks = (refuses, goes-on, stop-unless, past-unless, le-leb, lt-leb, above-limit, within-limit, squares-few, trees-few)
 
-pub measured-spec : {M : Type 1} → statement M
-unfolding measured
-measured-spec =
+pub add-trees-spec : {M : Type 1} → statement M
+unfolding addTrees
+add-trees-spec =
     tie.close
     (tie.spec
     (λ c κs. tt)

@@ -1,4 +1,4 @@
--- `biomass::tree::row` meets its contract: each test of the code is the definition's; a tree and the number of trees have their greatest, so that
+-- `biomass::tree::row_biomass` meets its contract: each test of the code is the definition's; a tree and the number of trees have their greatest, so that
 -- the products fit.
 use Prim.Native.Nat.{ℕ, _+_, _*_, _/_, _^_, _≤_, _<_}
 use native.Mathlib.Omega.{arith}
@@ -12,14 +12,14 @@ use borrow.Author.Tests.{eq-eqb, ne-eqb}
 use Rattle.biomass.specs.Report.{biomass, gives}
 use Rattle.biomass.specs.Limits.{mostEstimated}
 use Rattle.biomass.specs.Ends.{between}
-use Rattle.biomass.specs.Tree.{tree, row}
+use Rattle.biomass.specs.Tree.{tree, rowBiomass}
 use Rattle.biomass.specs.Law.Report.{Inside, refuses, goes-on, ranges, follows-biomass, stops-biomass}
 use Rattle.biomass.specs.Law.Tree.{TreeBounds, tree-bounds}
 use Rattle.biomass.specs.declared.units.BiomassRange.{BiomassRange}
-use Rattle.biomass.specs.declared.answer.Biomass.{Biomass}
+use Rattle.biomass.specs.declared.report.Biomass.{Biomass}
 use Rattle.biomass.specs.declared.tree.AverageTree.{AverageTree}
-use Rattle.biomass.proofs.tree.row.Statement.{statement}
-use Rattle.biomass.proofs.tree.row.Tie as tie
+use Rattle.biomass.proofs.tree.row_biomass.Statement.{statement}
+use Rattle.biomass.proofs.tree.row_biomass.Tie as tie
 
 -- past the test of the number, and with a tree that was answered, the products fit
 module _ {N : ℕ} {answer : Biomass} {m : BiomassRange} (t : AverageTree)
@@ -51,9 +51,9 @@ ruleset rows = (refuses, goes-on, follows-biomass, stops-biomass, of-none, of-so
 add-t16 : tie.Need-add-t16
 add-t16 c = record { fits = end-fits _ _ (search (high-fits, ranges)) (lit≤ tt) }
 
-pub row-spec : {M : Type 1} → statement M
-unfolding row
-row-spec =
+pub row-biomass-spec : {M : Type 1} → statement M
+unfolding rowBiomass
+row-biomass-spec =
     tie.close
     (tie.spec
     (λ c κs. tt)

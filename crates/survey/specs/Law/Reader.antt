@@ -12,7 +12,7 @@ use borrow.Author.Tests.{eqb-true}
 use Rattle.biomass.specs.Report.{refused, gives}
 use Rattle.biomass.specs.Law.Gives.{never, figure-is}
 use Rattle.codec.specs.Bytes.{AllBytes}
-use Rattle.survey.specs.Book.{encodeAll, readAll, reach}
+use Rattle.survey.specs.Reader.{encodeAll, readAll, reach}
 use Rattle.codec.specs.Law.Bytes.{stands-taken}
 use Rattle.survey.specs.Law.Reach.{stops-at-end, AllFit, reach-encoded, read-all-reach, reach-of-list}
 use Rattle.codec.specs.declared.command.Command.{Command}

@@ -1,4 +1,4 @@
--- `biomass::part::on_line` meets its contract: the start and the rise are at most 10^9 in size and d is in its range, so the sum is far from the ends of 64 bits; and it
+-- `biomass::ends::on_line` meets its contract: the start and the rise are at most 10^9 in size and d is in its range, so the sum is far from the ends of 64 bits; and it
 -- is not negative (`Rising`), so that its cast to an unsigned number is itself.
 use Prim.Native.Nat.{ℕ, _+_, _*_, _^_, _≤_}
 use native.Mathlib.Omega.{arith}
@@ -8,8 +8,8 @@ use mir.Syntax.{w64}
 use mir.Val.{toZ}
 use Rattle.powers.specs.Diameter.{unitsToCm, greatestD}
 use Rattle.biomass.proofs.Small.{Small, local, fits, kept, plus, times, numeral, double, natural}
-use Rattle.biomass.proofs.part.on_line.Statement.{statement}
-use Rattle.biomass.proofs.part.on_line.Tie as tie
+use Rattle.biomass.proofs.ends.on_line.Statement.{statement}
+use Rattle.biomass.proofs.ends.on_line.Tie as tie
 
 module _ (c : tie.Start) where
   from-start : Small (pos unitsToCm *ℤ local (c .args .start)) (pos unitsToCm *ℤ c .args .start) (unitsToCm * 10 ^ 9)

@@ -1,9 +1,9 @@
--- `fieldbook::figures::lay_biomass` meets its contract, by cases on what was given.
+-- `fieldbook::figures::store_biomass` meets its contract, by cases on what was given.
 use mathlib.Core.Path.{_∙_, sym, ap}
 use Rattle.biomass.specs.Report.{biomass}
 use Rattle.fieldbook.specs.Layout.{refusal, ends}
-use Rattle.fieldbook.proofs.figures.lay_biomass.Statement.{statement}
-use Rattle.fieldbook.proofs.figures.lay_biomass.Tie as tie
+use Rattle.fieldbook.proofs.figures.store_biomass.Statement.{statement}
+use Rattle.fieldbook.proofs.figures.store_biomass.Tie as tie
 
 returns : tie.Need-returns
 returns c =
@@ -15,8 +15,8 @@ returns-2 c =
     let same = ap biomass (sym (c .before .before .before .given2 .given .1)) in
     (c .number .ensures ∙ ap refusal same, ap ends same)
 
-pub lay-biomass-spec : {M : Type 1} → statement M
-lay-biomass-spec =
+pub store-biomass-spec : {M : Type 1} → statement M
+store-biomass-spec =
     tie.close
     (tie.spec
     (λ c. c .match .keys1)

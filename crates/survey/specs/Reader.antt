@@ -9,7 +9,7 @@ use Rattle.codec.specs.Refusal.{number}
 use Rattle.codec.specs.Command.{encode}
 use Rattle.codec.specs.Reading.{read}
 use Rattle.codec.specs.declared.command.Command.{Command}
-use Rattle.survey.specs.declared.reader.Through.{Through}
+use Rattle.survey.specs.declared.reader.Extent.{Extent}
 
 -- the bytes of a list of commands
 unfoldable pub encodeAll : List Command → List ℕ
@@ -36,21 +36,21 @@ pub record Reach : Type 0 where
   pub why : ℕ
 
 -- no further than a refusal at the place, and a command in front of what comes after it
-abbrev pub refusedAt : ℕ → ℕ → Reach
-refusedAt at n = record { commands = []; at = at; why = n }
+abbrev pub stopsAt : ℕ → ℕ → Reach
+stopsAt n at = record { commands = []; at = at; why = n }
 
 abbrev pub inFront : Command → Reach → Reach
 inFront c r = record { commands = c ∷ r .commands; at = r .at; why = r .why }
 
 -- by what is read at the place
 abbrev pub byRead : ℕ → Report (Command × ℕ) → (ℕ → Reach) → Reach
-byRead at (refused n) rest = refusedAt at n
+byRead at (refused n) rest = stopsAt n at
 byRead at (gives r) rest = inFront (r .0) (rest (r .1))
 
 -- As many commands are allowed as the book has bytes. Each takes a byte at least, so that at 0 no byte is left, where reading is refused with 1. Any
--- number not below that of the bytes left gives the same (Law.Reach: enough)
+-- number not below that of the bytes left gives the same (Law.Reach: reach-enough)
 unfoldable pub reachUpTo : ℕ → List ℕ → ℕ → Reach
-reachUpTo zero s at = refusedAt at 1
+reachUpTo zero s at = stopsAt 1 at
 reachUpTo (suc most) s at = byRead at (read s at) λ next. reachUpTo most s next
 
 unfoldable pub reach : List ℕ → ℕ → Reach
@@ -58,8 +58,8 @@ unfolding reachUpTo
 reach s from = reachUpTo (length s) s from
 
 -- how many commands, the place and the number: what the code answers, and what is reached
-abbrev pub through : Through → ℕ × ℕ × ℕ
-through t = (t .commands, t .at, number (t .why))
+abbrev pub extent : Extent → ℕ × ℕ × ℕ
+extent t = (t .commands, t .at, number (t .why))
 
 abbrev pub counted : Reach → ℕ × ℕ × ℕ
 counted r = (length (r .commands), r .at, r .why)

@@ -1,9 +1,9 @@
--- `fieldbook::figures::lay_carbon` meets its contract, by cases on what was given.
+-- `fieldbook::figures::store_carbon` meets its contract, by cases on what was given.
 use mathlib.Core.Path.{_∙_, sym, ap}
 use Rattle.biomass.specs.Report.{carbon}
 use Rattle.fieldbook.specs.Layout.{refusal, carbonEnds}
-use Rattle.fieldbook.proofs.figures.lay_carbon.Statement.{statement}
-use Rattle.fieldbook.proofs.figures.lay_carbon.Tie as tie
+use Rattle.fieldbook.proofs.figures.store_carbon.Statement.{statement}
+use Rattle.fieldbook.proofs.figures.store_carbon.Tie as tie
 
 returns : tie.Need-returns
 returns c =
@@ -15,8 +15,8 @@ returns-2 c =
     let same = ap carbon (sym (c .before .before .before .given2 .given .1)) in
     (c .number .ensures ∙ ap refusal same, ap carbonEnds same)
 
-pub lay-carbon-spec : {M : Type 1} → statement M
-lay-carbon-spec =
+pub store-carbon-spec : {M : Type 1} → statement M
+store-carbon-spec =
     tie.close
     (tie.spec
     (λ c. c .match .keys1)

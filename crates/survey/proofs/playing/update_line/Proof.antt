@@ -1,4 +1,4 @@
--- `survey::playing::note` meets its contract, by cases on what was read: measured trees and a height tree are the line's own, any other command is not.
+-- `survey::playing::update_line` meets its contract, by cases on what was read: measured trees and a height tree are the line's own, any other command is not.
 use Prim.Native.Nat.{ℕ}
 use mathlib.Core.Path.{_≡_, _∙_, refl, sym, ap}
 use mathlib.Core.List.{[], _∷_}
@@ -10,33 +10,33 @@ use Rattle.biomass.specs.Law.Report.{stops, follows}
 use Rattle.codec.specs.Refusal.{number}
 use Rattle.codec.specs.Reading.{reading}
 use Rattle.survey.specs.Change.{ownOf}
-use Rattle.survey.specs.Noting.{Note, notOfTheLine, notedTo, noteBy, note}
+use Rattle.survey.specs.LineUpdate.{Update, otherCommand, updatedTo, updateBy, updateLine}
 use Rattle.codec.specs.declared.refusal.Refusal.{Refusal}
 use Rattle.codec.specs.declared.command.Command.{Command}
 use Rattle.codec.specs.declared.reading.Reading.{Reading}
 use Rattle.line.specs.declared.line.Line.{Line}
 use Rattle.codec.proofs.command.Command.{the-type}
-use Rattle.survey.proofs.playing.note.Statement.{statement}
-use Rattle.survey.proofs.playing.note.Tie as tie
+use Rattle.survey.proofs.playing.update_line.Statement.{statement}
+use Rattle.survey.proofs.playing.update_line.Tie as tie
 
 -- what follows reading: the command that it gave, or its refusal
-module _ {first : Report (Command × ℕ)} {answer : Reading} (f : Command × ℕ → Report Note) (promise : reading answer ≡ first) where
-  was-read : {k : Command} {next : ℕ} {x : Report Note} → answer ≡ Reading.Is k next → x ≡ f (k, next) → x ≡ (first then f)
+module _ {first : Report (Command × ℕ)} {answer : Reading} (f : Command × ℕ → Report Update) (promise : reading answer ≡ first) where
+  was-read : {k : Command} {next : ℕ} {x : Report Update} → answer ≡ Reading.Is k next → x ≡ f (k, next) → x ≡ (first then f)
   was-read is = follows first f (sym promise ∙ ap reading is)
 
   not-read : {why : Refusal} → answer ≡ Reading.Refused why → refused (number why) ≡ (first then f)
   not-read is = stops first f (sym promise ∙ ap reading is)
 
 -- what the command is known to be, it is noted as
-by-case : {k d : Command} {x : Report Note} (next : ℕ) (l : Line) → k ≡ d → x ≡ noteBy next (ownOf d l) → x ≡ noteBy next (ownOf k l)
-by-case next l is e = e ∙ ap (λ (k : Command). noteBy next (ownOf k l)) (sym is)
+by-case : {k d : Command} {x : Report Update} (next : ℕ) (l : Line) → k ≡ d → x ≡ updateBy next (ownOf d l) → x ≡ updateBy next (ownOf k l)
+by-case next l is e = e ∙ ap (λ (k : Command). updateBy next (ownOf k l)) (sym is)
 
 -- and what became of the line is what the line's routine promises
-by-line : {answered after : Report Line} {x : Report Note} (next : ℕ) → answered ≡ after → x ≡ notedTo next answered → x ≡ notedTo next after
-by-line next promise e = e ∙ ap (notedTo next) promise
+by-line : {answered after : Report Line} {x : Report Update} (next : ℕ) → answered ≡ after → x ≡ updatedTo next answered → x ≡ updatedTo next after
+by-line next promise e = e ∙ ap (updatedTo next) promise
 
 -- the commands of the other tags are not the line's own
-others : (k : Command) (next : ℕ) (l : Line) → OneOf (0 ∷ 1 ∷ 2 ∷ 5 ∷ 6 ∷ []) (tagOf the-type k) → gives notOfTheLine ≡ noteBy next (ownOf k l)
+others : (k : Command) (next : ℕ) (l : Line) → OneOf (0 ∷ 1 ∷ 2 ∷ 5 ∷ 6 ∷ []) (tagOf the-type k) → gives otherCommand ≡ updateBy next (ownOf k l)
 others (Command.Species id species) next l one = refl
 others (Command.Factor cm factor) next l one = refl
 others (Command.Open stratum species p q) next l one = refl
@@ -45,9 +45,9 @@ others (Command.Height cm tenths) next l one = absurd (miss (0 ∷ 1 ∷ 2 ∷ 5
 others Command.Close next l one = refl
 others Command.End next l one = refl
 
-pub note-spec : {M : Type 1} → statement M
-unfolding note
-note-spec =
+pub update-line-spec : {M : Type 1} → statement M
+unfolding updateLine
+update-line-spec =
     tie.close
     (tie.spec
     (λ c κs. tt)

@@ -1,4 +1,4 @@
--- `survey::change::has_row` meets its contract. The loop's invariant: no row before i is the line's, so that the answer is that of the rows from i on.
+-- `survey::change::any_line` meets its contract. The loop's invariant: no row before i is the line's, so that the answer is that of the rows from i on.
 use Prim.Native.Nat.{ℕ, _+_, _-_, _≤_, _<_, min}
 use mathlib.Core.Path.{_≡_, _∙_, refl, sym, ap}
 use mathlib.Core.Bool.{Bool, true, false, cond}
@@ -10,8 +10,8 @@ use lib.Seq.{drop-cons, getD-take}
 use Rattle.survey.specs.Survey.{mostLines, isLine, anyLine}
 use Rattle.line.specs.declared.row.Row.{Row}
 use Rattle.survey.specs.declared.change.Named.{Named}
-use Rattle.survey.proofs.change.has_row.Statement.{statement}
-use Rattle.survey.proofs.change.has_row.Tie as tie
+use Rattle.survey.proofs.change.any_line.Statement.{statement}
+use Rattle.survey.proofs.change.any_line.Tie as tie
 
 -- whether one of the closed rows from k on is the line's
 abbrev rest : Named → List Row → ℕ → ℕ → Bool
@@ -77,8 +77,8 @@ returns-3 c =
     let p = c .before .before in
     sym (none-left (p .args .line) (p .args .t1) (p .args .closed) (c .before .loop .i) (omega (arith, all p, c .loop-test .left))) ∙ c .before .loop .inv .1
 
-pub has-row-spec : {M : Type 1} → statement M
-has-row-spec =
+pub any-line-spec : {M : Type 1} → statement M
+any-line-spec =
     tie.close
     (tie.spec
     Inv-loop
