@@ -1,6 +1,6 @@
 -- What is proved of the layout.
 --     zero-is-totalled, zero-is-read, zero-is-written, zero-is-found, zero-is-figure, zero-is-tariff     0 is told of no refusal
---     told-again      the numbers of totalling say just what it answers
+--     answered-again      the numbers of totalling say just what it answers
 --     natural-wide, negative-wide      a signed operand stands in two's complement of 64 bits
 --     numbers-command, command-numbers, no-command      numbers stand for a command exactly where they are its numbers
 --     written-read, read-written      numbers that are written are read back, and those that are read are written as the same bytes

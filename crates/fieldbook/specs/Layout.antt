@@ -1,5 +1,5 @@
 -- How answers and refusals are laid out for programs in other languages. Every function answers 0 or document 01's number of the refusal
--- (Law: zero-is-totalled and the like: 0 is told of no refusal). What it found is laid into the numbers that the caller lends, and where it is refused they are 0.
+-- (Law: zero-is-totalled and the like: 0 is told of no refusal). What it found is put into the numbers that the caller lends, and where it is refused they are 0.
 use Prim.Native.Nat.{ℕ, zero, suc}
 use mathlib.Core.List.{List, [], _∷_}
 use lib.ListN.{getD}
@@ -41,7 +41,7 @@ abbrev pub totals : Answer → List ℕ
 totals (refusedAt n at) = 0 ∷ 0 ∷ 0 ∷ 0 ∷ at ∷ []
 totals (totalled t) = t .rows ∷ t .trees ∷ t .carbon .low .0 ∷ t .carbon .high .0 ∷ 0 ∷ []
 
--- and what these numbers say: where 0 came back the totals, and else the refusal and its place (Law: told-again: just what totalling answers)
+-- and what these numbers say: where 0 came back the totals, and else the refusal and its place (Law: answered-again: just what totalling answers)
 abbrev pub answered : ℕ → List ℕ → Answer
 answered zero ns =
     totalled (record {

@@ -89,7 +89,7 @@ changeOf Command.End v l factors = ends (v .active)
 abbrev pub decided : Command → Seen → Line → List ℕ → Report Change
 decided c v l factors = when (v .ended) 5 (changeOf c v l factors)
 
--- What a command makes of the open line, where it is one of the line's own; the code leaves the rest of the survey aside for these (Noting)
+-- What a command makes of the open line, where it is one of the line's own; the code leaves the rest of the survey aside for these (LineUpdate)
 pub data Own : Type 0 where
   own : Report Line → Own
   notOwn : Own

@@ -2,10 +2,10 @@
 --     Reader: read-all-encoded, encoded-read-all    the same of whole books: a list's encoding reads back as the list, and a book that reads through is its list's encoding
 --     Reader: encode-all-one                    so two lists with the same bytes are the same list
 --     Reach: stops-there, reach-encoded       a book reads as far as its first refusal, and the bytes up to there are its commands' encoding
---     Reach: stops-at-end, one-at-end         from a place not past its end it stops at its end with 1 alone, and with 1 nowhere else; `enough`, as in Playing
+--     Reach: stops-at-end, one-at-end         from a place not past its end it stops at its end with 1 alone, and with 1 nowhere else; `reach-enough`, as in Playing
 --     Reach: read-all-reach, reach-of-list    reading it whole answers the same; a list's encoding reads to its end, as the list
 --     Sheet: row-stands, rest-stays           the i-th row stands in its own bytes of the sheet, and no byte past the rows changes
---     Sheet: row-reads-back                   a row that is laid is read back as it was
+--     Sheet: row-reads-back                   a row that is stored is read back as it was
 --     Effect: effect                          what a command that is taken changes is a species, a factor, the line or the rows
 --     Valid: fresh-valid, apply-valid         a fresh survey is valid, and every command keeps a survey so; `reached-valid`: so every one that commands reach is
 --     AsWritten: as-written                   of a valid survey, applying is document 01's text, with no refusal but those that it names
@@ -13,11 +13,13 @@
 --     Named: only-named, never-other          the refusals of each command are those that document 01 names; of any survey, besides only 6 and 11
 --     Named: refusal-of-applying              the numbers of applying are 5 to 15
 --     Named: refusal-not-zero, refusal-from-five      and no refusal is taken for acceptance, nor for one of reading or writing
+--     Named: line-row-declines                and those of a line's row by themselves
 --     Limit: limit-told, close-never          11 is told only at the limit, of any survey; closing tells it of no valid one
 --     Change: ended-refuses, decides          a book that has ended takes no command; what the code decides of a command is what applying it makes of the survey
+--     Change: not-ended-seen                  a book that has not ended is seen so
 --     Change: own-applied                     and a command of the open line does to the survey what it does to the line
---     Once: species-stay, factors-stay, rows-stay     what is given once never changes
---     Playing: plays-refused, plays-on, plays-end, plays-past-end     how playing goes on from a place; `enough`: how many commands are allowed makes no difference
+--     Stable: species-stay, factors-stay, rows-stay     what is given once never changes
+--     Playing: plays-refused, plays-on, plays-end, plays-past-end     how playing goes on from a place; `enough-commands`: how many commands are allowed makes no difference
 --     Playing: plays-taken, plays-declined, plays-unread      and from a command whose change is known; `plays-updated`, `update-refused`: on an open line by itself
 --     Playing: play-valid, play-ended         a book is played to a valid survey, which has ended
 --     Playing: kept-to-the-end                what every command keeps is kept to the end of the book

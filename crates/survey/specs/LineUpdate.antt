@@ -1,5 +1,5 @@
--- What the code does while a line is open: it leaves the survey aside and notes the line's own commands on the line. (A private part of playing; document
--- 01 does not name it. Law.Playing shows that it comes to the same: note-line, note-refused.)
+-- What the code does while a line is open: it leaves the survey aside and updates the line by the line's own commands. (A private part of playing; document
+-- 01 does not name it. Law.Playing shows that it comes to the same: update-taken, update-refused.)
 use Prim.Native.Nat.{ℕ}
 use mathlib.Core.List.{List}
 use Rattle.biomass.specs.Report.{Report, refused, gives, _then_}
@@ -24,7 +24,7 @@ lineUpdate (LineUpdate.Refused why) = refused (number why)
 abbrev pub updatedTo : ℕ → Report Line → Report Update
 updatedTo next line = line then λ l. gives (lineUpdated l next)
 
--- what is noted of a command that was read, by what it makes of the open line
+-- the update by a command that was read, from what it makes of the open line
 abbrev pub updateBy : ℕ → Own → Report Update
 updateBy next (own after) = updatedTo next after
 updateBy next notOwn = gives otherCommand

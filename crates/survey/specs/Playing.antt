@@ -56,7 +56,7 @@ abbrev pub afterEnd : List ℕ → ℕ → Survey → Played
 afterEnd book at s = cond (ltb at (length book)) (stopped 5 at) (ended s)
 
 -- The rest of the book from a place on. Each command takes a byte at least, so that with `most` above the number of bytes left it is never used up, and
--- which such number it is makes no difference (Law.Playing: enough)
+-- which such number it is makes no difference (Law.Playing: enough-commands)
 unfoldable pub playUpToBy : Rules → ℕ → List ℕ → ℕ → Survey → Played
 playUpToBy rules zero book at s = stopped 1 at
 playUpToBy rules (suc most) book at s =

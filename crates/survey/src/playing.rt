@@ -73,7 +73,7 @@ fn updated_to(answer: Updated, next: usize) -> LineUpdate
     }
 }
 
-// One command: read at the place, and noted on the open line where it is the line's own.
+// One command: read at the place, and the open line updated by it where it is the line's own.
 fn update_line(book: &[u8], at: usize, line: Line) -> LineUpdate
     ensures { λ r. ⌜ lineUpdate r ≡ updateLine (now (book .entry)) at line ⌝ }
 {
@@ -87,7 +87,7 @@ fn update_line(book: &[u8], at: usize, line: Line) -> LineUpdate
     }
 }
 
-// The lines of a book and their commands. What is noted of an open line changes the line alone, so the survey, which is
+// The lines of a book and their commands. A command of an open line changes the line alone, so the survey, which is
 // more than twenty times as large, is left aside for it; and what another command changes is stored in its place, here,
 // since a table of species or of rows cannot be lent.
 pub(crate) fn play(book: &[u8]) -> Played

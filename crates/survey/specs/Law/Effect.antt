@@ -1,5 +1,5 @@
 -- What a command that is taken changes, of any survey, valid or not: a species, a factor, the line or the rows, each with what the checks say of it that
--- the command passed. Only `effect` goes by command: what holds of every command that is taken is shown of these four (Law.Once, Law.Valid, Law.Witness,
+-- the command passed. Only `effect` goes by command: what holds of every command that is taken is shown of these four (Law.Stable, Law.Valid, Law.Witness,
 -- Law.Closings, Law.Rows).
 use Prim.Native.Nat.{ℕ, _+_, _≤_, _<_, zero-le}
 use native.Mathlib.Omega.{arith}

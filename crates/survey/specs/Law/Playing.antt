@@ -138,7 +138,7 @@ plays-unread book at s n not-ended e = plays-refused book at s n not-ended (ap (
 
 -- ---- the open line alone
 
--- what a note of the line makes of the survey: the other line; and where the command is not the line's own, whatever else comes of it
+-- what an update of the line makes of the survey: the other line; and where the command is not the line's own, whatever else comes of it
 abbrev carried : Survey → Report (Survey × ℕ) → Update → Report (Survey × ℕ)
 carried s other (lineUpdated m next) = gives (withLine s m, next)
 carried s other otherCommand = other

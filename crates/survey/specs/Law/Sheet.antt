@@ -1,5 +1,5 @@
 -- What is proved of the sheet, row by row and byte by byte: each row stands in its own bytes, no byte past the last row changes, and a row that is
--- laid is read back as it was.
+-- stored is read back as it was.
 use Prim.Native.Nat.{ℕ, zero, suc, _+_, _*_, _≤_, _<_, zero-le}
 use native.Mathlib.Nat.{le-of-suc-le-suc, not-suc-le-zero}
 use native.Mathlib.Numerals.{add-one}
@@ -84,7 +84,7 @@ module _ (sheet : List ℕ) (rows : List Row) where
           let r = getD rows i z in
           rw (length-row r) at (stands-taken (rowBytes r) (storedAt sheet 0 (sheetBytes rows)) (rowLength * i) stands (omega (arith, fits, length-row r)))
 
-      -- a row that is laid and read is the same row
+      -- a row that is stored and read is the same row
       pub row-reads-back : RowFits (getD rows i z) → findRow (storedAt sheet 0 (sheetBytes rows)) i ≡ gives (getD rows i z)
       unfolding findRow
       row-reads-back f =

@@ -1,5 +1,5 @@
 -- The fresh survey is valid, and every command that is taken leaves a valid survey valid: what it changes has passed its checks (Law.Effect), and what was
--- noted before stays as it was (Law.Once).
+-- noted before stays as it was (Law.Stable).
 use Prim.Native.Nat.{ℕ, zero, suc, _<_, zero-le}
 use native.Mathlib.Numerals.{add-one}
 use native.Mathlib.Decide.{ℕ-discrete}
@@ -81,7 +81,7 @@ line-stays s t l same rows v =
       first = ap (anyLine (l .stratum) (l .id)) rows ∙ v .first;
     }
 
--- what every command that is taken keeps (Law.Once: species-stay)
+-- what every command that is taken keeps (Law.Stable: species-stay)
 abbrev SpeciesStay : Survey → Survey → Type 0
 SpeciesStay s t = (id : ℕ) → declared id s ≡ true → speciesAt t id ≡ speciesAt s id
 

@@ -7,7 +7,7 @@ use Rattle.survey.proofs.Check.{survey-checks}
 use Rattle.survey.proofs.change.opening.Statement.{statement}
 use Rattle.survey.proofs.change.opening.Tie as tie
 
--- the line that is begun
+-- the new line
 begins : {l m : Line} → l ≡ m → gives (Change.Line l) ≡ gives (Change.Line m)
 begins = ap (λ (l : Line). gives (Change.Line l))
 

@@ -49,7 +49,7 @@ not-ended c = c .before .before .lines .inv .1
 abbrev survey-at : tie.At-loop Inv-loop μ-loop Inv-lines μ-lines → Survey
 survey-at c = withLine (survey-in c) (c .loop .line)
 
--- a command that was noted on the line
+-- a command that updated the line
 noted-on : (c : tie.After-after Inv-loop μ-loop Inv-lines μ-lines) →
     let at = c .before .before .before .before in
     On (book-in at) (at .loop .at) (survey-at at) (c .after .given .0 .1 .0) (withLine (survey-in at) (c .after .given .0 .0))
@@ -96,7 +96,7 @@ module _ (d : tie.After-decide Inv-loop μ-loop Inv-lines μ-lines) {change : Ch
   on : playFrom (book-in (in-line d)) (next-of d) t ≡ play (book-in (in-line d))
   on = sym (moved .plays) ∙ in-line d .loop .inv .2
 
-  -- further on in the book than where the line was begun
+  -- further on in the book than where the line was opened
   less : length (book-in (in-line d)) - next-of d < length (book-in (in-line d)) - in-line d .before .before .lines .at
   less = omega (arith, moved .moves, moved .inside, in-line d .loop .inv .0)
 

@@ -27,7 +27,7 @@ module _ {first : Report (Command × ℕ)} {answer : Reading} (f : Command × �
   not-read : {why : Refusal} → answer ≡ Reading.Refused why → refused (number why) ≡ (first then f)
   not-read is = stops first f (sym promise ∙ ap reading is)
 
--- what the command is known to be, it is noted as
+-- the line is updated by what the command is known to be
 by-case : {k d : Command} {x : Report Update} (next : ℕ) (l : Line) → k ≡ d → x ≡ updateBy next (ownOf d l) → x ≡ updateBy next (ownOf k l)
 by-case next l is e = e ∙ ap (λ (k : Command). updateBy next (ownOf k l)) (sym is)
 

@@ -67,7 +67,7 @@ module _ (book : List ℕ) (p : Code.Played) (promise : played p ≡ play book) 
     refusal-keeps : {why : Refusal} → p .outcome ≡ Outcome.Refused why → sheet ≡ sheetAfter book sheet
     refusal-keeps e = lays (to-refusal e) refl
 
-    -- at the end the rows are laid, and the sheet is as long as it was
+    -- at the end the rows are stored, and the sheet is as long as it was
     end-answer : {r : Answer} → p .outcome ≡ Outcome.Done → r ≡ totalled (totalOf (rowsOf (p .survey))) → r ≡ total book sheet
     end-answer e = answers (to-end e)
 

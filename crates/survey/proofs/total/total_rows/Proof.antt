@@ -28,7 +28,7 @@ module _ (all : List Row) (closed : ℕ) (small : RowsSmall (take closed all)) (
   abbrev rows : List Row
   rows = take closed all
 
-  -- they are as many as are asked for, and laid into the sheet they leave its length as it was
+  -- they are as many as are asked for, and stored in the sheet they leave its length as it was
   number-is : length rows ≡ closed
   number-is = length-take-le closed all (omega arith)
 
