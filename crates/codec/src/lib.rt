@@ -1,4 +1,4 @@
-// A command's bytes: the commands of a field book, reading and writing one, and reading a book through.
+// A command's bytes: the commands of a field book, and reading and writing one. Of `biomass` only the refusals are used here.
 pub mod bytes;
 pub mod command;
 pub mod reading;

@@ -1,12 +1,9 @@
--- The law of this crate, in the order of document 01: the commands of a book, what each operation may decline, what applying a command to a
--- survey does, and what totalling a book into a sheet does, with demand 3. Each definition stands under the sentence that it states. How to read these
--- files is said in biomass/specs/Lib.antt; besides, `x ∷ l` is the list l with x in front, `++` joins lists, `getD l i z` is what stands in l at i,
--- counted from 0, and z past its end, `take k l` and `drop k l` are the first k of l and the rest, and `set l i x` is l with x at i. A list of checks is
--- read from the top: `unless test n` is the refusal n where the test fails, `when test n` where it holds, and else what follows; `first then λ x. rest` is
--- the rest with the figure x that the first gives, or the first's refusal.
--- a command's bytes, and books
+-- The law of this crate, in the order of document 01: how far a book reads, what applying a command to a survey does and may decline, and what totalling a
+-- book into a sheet does, with demand 3. Each definition stands under the sentence that it states. Below it are those of a command's bytes (codec/specs), of
+-- one line and its row (line/specs), and of the figures (biomass/specs). How to read these files is said in biomass/specs/Lib.antt and codec/specs/Lib.antt.
+-- books
 pub mod Reader
--- lines and surveys
+-- surveys
 pub mod Survey
 pub mod AsWritten
 pub mod Closings
