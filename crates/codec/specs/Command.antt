@@ -24,7 +24,7 @@ encode (Height cm tenths) = 5 ∷ cm ∷ bytes 2 tenths
 encode Close = 6 ∷ []
 encode End = 7 ∷ []
 
--- A command whose operands fit the bytes that they are written in. Those of the code's types all do: `encode` of src/writing.rt promises it
+-- A command whose operands fit the bytes that they are written in. Those of the code's types all do: `store_command` of src/writing.rt promises it
 abbrev pub FitsFour : ℤ → Type 0
 FitsFour (pos n) = n < 2147483648
 FitsFour (negsuc n) = n < 2147483648

@@ -55,7 +55,7 @@ fn store_signed(buffer: &mut [u8], at: usize, x: i32) -> usize
     store(buffer, at, 4, bits_of(x) as u64)
 }
 
-// 01, where there is room for it.
+// 01, where there is room for it. Each place is called after the operand that comes next.
 fn store_species(buffer: &mut [u8], at: usize, id: u8, s: Species)
     requires { ⌜ at + 21 ≤ length (now buffer) ⌝ }
     ensures { λ _. ⌜ now (buffer .exit) ≡ storedAt (now (buffer .entry)) at (encode (Command.Species id s)) ⌝ }

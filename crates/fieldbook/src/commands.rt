@@ -175,9 +175,9 @@ pub extern "C" fn fieldbook_read(
     ensures answer { λ _. ⌜ now (answer .exit) ≡ command (read (now (book .entry)) at) ⌝ }
     ensures next { λ _. ⌜ now (next .exit) ≡ placeAfter at (read (now (book .entry)) at) ⌝ }
 {
-    let onward = command_at(book, at);
-    *next = onward.at;
-    let reading = onward.reading;
+    let advance = command_at(book, at);
+    *next = advance.at;
+    let reading = advance.reading;
     match reading {
         Reading::Is(command, _) => {
             *answer = numbers_of(command);

@@ -106,6 +106,6 @@ rowWith l T d N m = record { stratum = l .stratum; species = l .id; tariff = T; 
 abbrev pub estimatedRow : Line → Estimate → Row
 estimatedRow l e = rowWith l (e .tree .tariff) (e .tree .d) (e .N) (rowOf (e .N) (treeOf (e .tree)))
 
--- a row with no figure above 0. That of a line with n = 0 is this (Law.AsWritten: row-of-none)
+-- a row with no figure above 0. That of a line with n = 0 is this (survey's Law.AsWritten: row-of-none)
 abbrev pub emptyRow : Line → Row
 emptyRow l = rowWith l 0 0 0 (between 0 0)

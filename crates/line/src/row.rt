@@ -29,7 +29,7 @@ pub struct Row {
     pub biomass: BiomassRange,
 }
 
-// The figures of a row, one after the other, where there is room for them.
+// The figures of a row, one after the other, where there is room for them. Each place is called after the figure that comes next.
 fn store_figures(sheet: &mut [u8], at: usize, row: Row)
     requires { ⌜ at + rowLength ≤ length (now sheet) ⌝ }
     ensures { λ _. ⌜ now (sheet .exit) ≡ storedAt (now (sheet .entry)) at (rowBytes row) ⌝ }

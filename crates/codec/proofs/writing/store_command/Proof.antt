@@ -1,5 +1,5 @@
 -- `codec::writing::store_command` meets its contract: each arm stores the bytes of its command, in the order of its operands. That the operands fit their
--- bytes is what their types tell (`known-told`).
+-- bytes is what their types tell.
 use Prim.Native.Nat.{ℕ, _+_, _≤_, _<_}
 use native.Mathlib.Omega.{arith}
 use mathlib.Core.Path.{_≡_, _∙_, sym, ap, subst}
@@ -30,16 +30,16 @@ room-as is = ap (λ (k : Command). length (encode k)) is
 species-fits : {k : Command} {n id : ℕ} (s : Declared.Species) (at : ℕ) → k ≡ Species id s → at + length (encode k) ≤ n → at + 21 ≤ n
 species-fits s at is room = omega (arith, room-as is)
 
--- the command k, for which there is room, is the bytes l: they are stored
+-- d is the buffer b with a command stored in it: any one that is known to be such, and for which there is room
 module _ (b : List ℕ) (at : ℕ) where
-  abbrev Found : List ℕ → (Command → Type 0) → Type 0
-  Found d is-such = (k : Command) → at + length (encode k) ≤ length b → is-such k → d ≡ storedAt b at (encode k)
+  abbrev Command-stored : List ℕ → (Command → Type 0) → Type 0
+  Command-stored d is-such = (k : Command) → at + length (encode k) ≤ length b → is-such k → d ≡ storedAt b at (encode k)
 
   -- a command's byte alone
-  close-stored : {d : List ℕ} {q : ℕ} → Stores b at (6 ∷ []) d q → Found d (λ k. k ≡ Close)
+  close-stored : {d : List ℕ} {q : ℕ} → Stores b at (6 ∷ []) d q → Command-stored d (λ k. k ≡ Close)
   close-stored only k room is = stored-as b at is (fits-stored b at (6 ∷ []) (omega (arith, room-as is)) only .0)
 
-  end-stored : {d : List ℕ} {q : ℕ} → Stores b at (7 ∷ []) d q → Found d (λ k. k ≡ End)
+  end-stored : {d : List ℕ} {q : ℕ} → Stores b at (7 ∷ []) d q → Command-stored d (λ k. k ≡ End)
   end-stored only k room is = stored-as b at is (fits-stored b at (7 ∷ []) (omega (arith, room-as is)) only .0)
 
   module _ (x y : ℕ) {c : List ℕ} {p : ℕ} (first : Stores b at (x ∷ y ∷ []) c p) where
@@ -50,17 +50,17 @@ module _ (b : List ℕ) (at : ℕ) where
     byte-then : {d : List ℕ} {q : ℕ} (z : ℕ) → Stores c p (bytes 1 z) d q → z < 256 → at + 3 ≤ length b → Stored b at (x ∷ y ∷ z ∷ []) d q
     byte-then z next fits room = two-then (z ∷ []) (rw (byte-alone z fits) at next) room
 
-    factor-stored : {d : List ℕ} {q : ℕ} (factor : ℕ) → Stores c p (bytes 1 factor) d q → x ≡ 2 → factor < 256 → Found d (λ k. k ≡ Factor y factor)
+    factor-stored : {d : List ℕ} {q : ℕ} (factor : ℕ) → Stores c p (bytes 1 factor) d q → x ≡ 2 → factor < 256 → Command-stored d (λ k. k ≡ Factor y factor)
     factor-stored factor next two fits k room is = stored-as b at is (rw two at (byte-then factor next fits (omega (arith, room-as is)) .0))
 
-    measured-stored : {d : List ℕ} {q : ℕ} (count : ℕ) → Stores c p (bytes 2 count) d q → x ≡ 4 → Found d (λ k. k ≡ Measured y count)
+    measured-stored : {d : List ℕ} {q : ℕ} (count : ℕ) → Stores c p (bytes 2 count) d q → x ≡ 4 → Command-stored d (λ k. k ≡ Measured y count)
     measured-stored count next four k room is = stored-as b at is (rw four at (two-then (bytes 2 count) next (omega (arith, room-as is)) .0))
 
-    height-stored : {d : List ℕ} {q : ℕ} (tenths : ℕ) → Stores c p (bytes 2 tenths) d q → x ≡ 5 → Found d (λ k. k ≡ Height y tenths)
+    height-stored : {d : List ℕ} {q : ℕ} (tenths : ℕ) → Stores c p (bytes 2 tenths) d q → x ≡ 5 → Command-stored d (λ k. k ≡ Height y tenths)
     height-stored tenths next five k room is = stored-as b at is (rw five at (two-then (bytes 2 tenths) next (omega (arith, room-as is)) .0))
 
     open-stored : {d e f : List ℕ} {j l o : ℕ} (id net plot : ℕ) → Stores c p (bytes 1 id) d j → Stores d j (bytes 4 net) e l → Stores e l (bytes 4 plot) f o →
-        x ≡ 3 → id < 256 → Found f (λ k. k ≡ Open y id net plot)
+        x ≡ 3 → id < 256 → Command-stored f (λ k. k ≡ Open y id net plot)
     open-stored id net plot second third fourth three fits k room is =
         let long = room-as is in
         let with-net = next-stored b at (x ∷ y ∷ id ∷ []) (bytes 4 net) (omega arith) (byte-then id second fits (omega arith)) third in
