@@ -5,7 +5,7 @@ library=target/staticlib/libfieldbook.a
 mkdir -p "$work"
 
 # The crates that the library and the programs stand on.
-lower=(crates/powers crates/biomass crates/codec crates/line crates/survey crates/console)
+lower=(crates/powers crates/biomass crates/codec crates/line crates/rules crates/survey crates/console)
 
 # Shows what a command writes only where it fails.
 quietly() { # COMMAND...

@@ -1,3 +1,3 @@
 -- Laws that the proofs of several routines share.
-pub mod Check
+pub mod Place
 pub mod ReaderWalk

@@ -2,23 +2,16 @@
 -- otherwise be outside what the next figure is worked from. Of a valid survey, and so of every one that a book reaches, applying is the text (Law.AsWritten:
 -- as-written), and every book comes to what it comes to by the text (Law.Playing: play-as-written). No promise about a whole book is stated over this.
 use Prim.Native.Nat.{ℕ}
-use mathlib.Core.Bool.{Bool}
 use mathlib.Core.List.{List, [], _∷_}
-use lib.Dec.{leb}
-use Rattle.biomass.specs.Report.{Report, gives, unless, _then_, when}
+use Rattle.biomass.specs.Report.{Report, gives, when}
+use Rattle.rules.specs.Checks.{onOpen, keeping}
 use Rattle.line.specs.AnyLine.{addTrees, addHeight, lineRow}
-use Rattle.survey.specs.Survey.{leaves, mostLines, withLine, withRow, declare, giveFactor, openLine, end}
+use Rattle.survey.specs.Survey.{leaves, withLine, withRow, declare, giveFactor, openLine, end}
 use Rattle.codec.specs.declared.command.Command.{Command}
-use Rattle.line.specs.declared.row.Row.{Row}
 use Rattle.line.specs.declared.line.Line.{Line}
 use Rattle.survey.specs.declared.survey.Survey.{Survey}
 
 -- a command of the open line, with what becomes of the line
-abbrev pub onOpen : {A : Type 0} → Bool → Report Line → (Line → Report A) → Report A
-onOpen is-open after next =
-    unless is-open 10
-    (after then next)
-
 abbrev pub onLine : Report Line → Survey → Report Survey
 onLine after s =
     when (s .ended) 5
@@ -31,14 +24,7 @@ applyMeasured class count s = onLine (addTrees class count (s .line)) s
 unfoldable pub applyHeight : ℕ → ℕ → Survey → Report Survey
 applyHeight cm tenths s = onLine (addHeight cm tenths (s .line)) s
 
--- closing, with the row that the line leaves; the last check declines a survey with a line open and 32 closed
-abbrev pub keeping : {A : Type 0} → Bool → ℕ → Report Row → (Row → Report A) → Report A
-keeping is-open closed row next =
-    unless is-open 10
-    (row then λ r.
-    when (leb mostLines closed) 11
-    (next r))
-
+-- closing, with the row that the line leaves
 unfoldable pub applyClose : Survey → Report Survey
 applyClose s =
     when (s .ended) 5

@@ -9,7 +9,7 @@ pub mod AsWritten
 pub mod Closings
 -- what the code does of any survey, and what holds of those that a book reaches
 pub mod Apply
-pub mod Change
+pub mod Changed
 pub mod Valid
 -- whole books: totalling, and demand 3
 pub mod Playing

@@ -5,7 +5,7 @@ use mathlib.Core.List.{List}
 use Rattle.biomass.specs.Report.{Report, refused, gives, _then_}
 use Rattle.codec.specs.Refusal.{number}
 use Rattle.codec.specs.Reading.{read}
-use Rattle.survey.specs.Change.{Own, own, notOwn, ownOf}
+use Rattle.rules.specs.Change.{Own, own, notOwn, ownOf}
 use Rattle.line.specs.declared.line.Line.{Line}
 use Rattle.survey.specs.declared.playing.LineUpdate.{LineUpdate}
 

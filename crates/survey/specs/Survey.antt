@@ -2,15 +2,16 @@
 -- (Apply), which decline only surveys that no book reaches.
 use Prim.Native.Nat.{ℕ, _+_}
 use mathlib.Core.Bool.{Bool, true, false, cond}
-use mathlib.Core.List.{List, [], _∷_}
+use mathlib.Core.List.{List}
 use lib.ListN.{getD, set, take, replicate}
 use lib.Dec.{leb, ltb, eqb}
 use lib.IntN.{pos}
 use Rattle.biomass.specs.Whole.{inside}
 use Rattle.biomass.specs.Report.{Report, refused, gives, unless, _then_, when}
-use Rattle.biomass.specs.Limits.{mostMeasured, mostHeights, mostEstimated, greatestArea}
+use Rattle.biomass.specs.Limits.{mostMeasured, mostHeights, mostEstimated}
 use Rattle.biomass.specs.declared.tree.AverageTree.{AverageTree}
 use Rattle.codec.specs.Refusal.{number}
+use Rattle.rules.specs.Checks.{mostLines, declaredAs, declaring, giving, anyLine, opening, ending}
 use Rattle.line.specs.Line.{newLine, withTrees, withHeight, tariffOf, T-of, d-of, N-of, factorAt, factorFor, treeWith, Estimate, noTrees, estimatedRow, emptyRow}
 use Rattle.codec.specs.declared.command.Species.{Species}
 use Rattle.line.specs.declared.row.Row.{Row}
@@ -40,10 +41,6 @@ leaves s (refused n) = record { survey = s; refusal = n }
 leaves s (gives t) = record { survey = t; refusal = 0 }
 
 -- ---- the survey
-
--- "Limits: 32 lines"
-abbrev pub mostLines : ℕ
-mostLines = 32
 
 -- what stands for a species that is not declared: a gravity is 1 to 100
 abbrev pub undeclared : Species
@@ -101,39 +98,18 @@ withRow s r = withRows (withState s false (s .line) (s .ended)) (set (s .rows) (
 abbrev pub withEnd : Survey → Survey
 withEnd s = withState s (s .active) (s .line) true
 
--- ---- the commands. "5 the book has ended, first of all."
+-- ---- the commands. "5 the book has ended, first of all." What else a declaration, an opening and the end decline is rules/specs/Checks.antt
 
--- "id (1 byte, 0 to 15), crown group (1, 0 to 7), root group (1, 0 to 5), specific gravity in hundredths (1, 1 to 100), c1 c2 c3 c4 (.. any value)"
-abbrev pub speciesInRange : ℕ → Species → Bool
-speciesInRange id s = cond (inside 0 id 15) (cond (inside 0 (s .crown) 7) (cond (inside 0 (s .root) 5) (inside 1 (s .gravity) 100) false) false) false
-
--- "8 species undeclared, an id above 15 included": by what stands at its place
-abbrev pub declaredAs : ℕ → Species → Bool
-declaredAs id there = cond (inside 0 id 15) (ltb 0 (there .gravity)) false
-
+-- whether a species is declared
 abbrev pub declared : ℕ → Survey → Bool
 declared id s = declaredAs id (speciesAt s id)
 
--- "Species and factor: 6 operand outside its range; 7 already given."
-abbrev pub declaring : {A : Type 0} → ℕ → Species → Bool → Report A → Report A
-declaring id species given next =
-    unless (speciesInRange id species) 6
-    (when given 7
-    next)
-
+-- "Species and factor: 6 ..; 7 already given."
 unfoldable pub declare : ℕ → Species → Survey → Report Survey
 declare id species s =
     when (s .ended) 5
     (declaring id species (declared id s)
     (gives (withSpecies s id species)))
-
--- "whole cm (1, 7 to 100), factor in hundredths (1, 100 to 200)"
-abbrev pub giving : {A : Type 0} → ℕ → ℕ → Bool → Report A → Report A
-giving cm factor given next =
-    unless (inside 7 cm 100) 6
-    (unless (inside 100 factor 200) 6
-    (when given 7
-    next))
 
 unfoldable pub giveFactor : ℕ → ℕ → Survey → Report Survey
 giveFactor cm factor s =
@@ -141,31 +117,11 @@ giveFactor cm factor s =
     (giving cm factor (ltb 0 (factorAt (s .factors) cm))
     (gives (withFactor s cm factor)))
 
--- "7 same stratum and species already opened": where no line is open, those opened are those closed, and each has its row
-abbrev pub isLine : ℕ → ℕ → Row → Bool
-isLine stratum id r = cond (eqb (r .stratum) stratum) (eqb (r .species) id) false
-
-abbrev pub anyLine : ℕ → ℕ → List Row → Bool
-anyLine stratum id [] = false
-anyLine stratum id (r ∷ l) = cond (isLine stratum id r) true (anyLine stratum id l)
-
+-- "same stratum and species already opened"
 unfoldable pub opened : ℕ → ℕ → Survey → Bool
 opened stratum id s = anyLine stratum id (take (s .closed) (s .rows))
 
--- "03 open a line: stratum (1, any), species (1), p (4), q (4), both 1 to 100,000,000."
-abbrev pub areasInRange : ℕ → ℕ → Bool
-areasInRange p q = cond (inside 1 p greatestArea) (inside 1 q greatestArea) false
-
--- "Opening: 6; 9 a line is open; 8 species undeclared, an id above 15 included; 7 same stratum and species already opened; 11 32 lines opened."
-abbrev pub opening : {A : Type 0} → ℕ → ℕ → Bool → Bool → Bool → ℕ → Report A → Report A
-opening p q is-open is-declared before closed next =
-    unless (areasInRange p q) 6
-    (when is-open 9
-    (unless is-declared 8
-    (when before 7
-    (when (leb mostLines closed) 11
-    next))))
-
+-- "Opening: 6; 9 ..; 8 ..; 7 ..; 11 .."
 unfoldable pub openLine : ℕ → ℕ → ℕ → ℕ → Survey → Report Survey
 openLine stratum id p q s =
     when (s .ended) 5
@@ -224,9 +180,6 @@ close s =
     (gives (withRow s (closingRow s))))))))
 
 -- "Ending: 9."
-abbrev pub ending : {A : Type 0} → Bool → Report A → Report A
-ending is-open next = when is-open 9 next
-
 unfoldable pub end : Survey → Report Survey
 end s =
     when (s .ended) 5

@@ -9,7 +9,8 @@ use Rattle.biomass.specs.Limits.{mostMeasured, mostHeights, mostEstimated, grea
 use Rattle.biomass.specs.Law.Report.{Inside}
 use Rattle.biomass.specs.Law.Tree.{RowBounds}
 use Rattle.line.specs.Line.{factorAt, emptyRow}
-use Rattle.survey.specs.Survey.{mostLines, noLine, speciesAt, declared, anyLine, opened}
+use Rattle.survey.specs.Survey.{noLine, speciesAt, declared, opened}
+use Rattle.rules.specs.Checks.{mostLines, anyLine}
 use Rattle.codec.specs.declared.command.Species.{Species}
 use Rattle.line.specs.declared.row.Row.{Row}
 use Rattle.line.specs.declared.line.Tally.{Tally}

@@ -1,9 +1,4 @@
 // Playing a book: its commands are applied to a fresh survey, to the end of the book or to the first refusal.
-use super::change::Change;
-use super::change::Seen;
-use super::change::any_line;
-use super::change::decide;
-use super::change::names;
 use super::survey::Outcome;
 use super::survey::Survey;
 use codec::command::Command;
@@ -13,6 +8,11 @@ use codec::reading::read_of_line;
 use codec::refusal::Refusal;
 use line::line::Line;
 use line::line::Updated;
+use rules::change::Change;
+use rules::change::Seen;
+use rules::change::any_line;
+use rules::change::decide;
+use rules::change::names;
 ghost use mathlib.Core.Path.{_≡_};
 ghost use Rattle.codec.specs.Refusal.{number};
 ghost use Rattle.line.specs.AnyLine.{updated};

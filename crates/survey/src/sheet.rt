@@ -1,15 +1,15 @@
 // The sheet: the rows of the closed lines, one after the other, from byte 0 on in closing order.
-use super::survey::MOST_LINES;
 use codec::refusal::Refusal;
 use line::row::ROW_LENGTH;
 use line::row::Row;
 use line::row::row_at;
 use line::row::store_row;
+use rules::change::MOST_LINES;
 ghost use mathlib.Core.Path.{_≡_};
 ghost use Prim.Native.Nat.{_+_, _≤_};
 ghost use lib.ListN.{length, take};
 ghost use Rattle.codec.specs.Bytes.{storedAt};
-ghost use Rattle.survey.specs.Survey.{mostLines};
+ghost use Rattle.rules.specs.Checks.{mostLines};
 ghost use Rattle.survey.specs.Sheet.{sheetLength, sheetBytes, found, findRow};
 
 // How many bytes a sheet has at least: room for the rows of all lines that a book may have.

@@ -1,21 +1,19 @@
 // The survey: what a field book has given so far. A command is applied to it, and it comes back beside the refusal.
-use super::change::Change;
-use super::change::Seen;
-use super::change::any_line;
-use super::change::decide;
-use super::change::names;
 use codec::command::Command;
 use codec::command::Species;
 use codec::refusal::Refusal;
 use line::line::Line;
 use line::row::Row;
+use rules::change::Change;
+use rules::change::MOST_LINES;
+use rules::change::Seen;
+use rules::change::any_line;
+use rules::change::decide;
+use rules::change::names;
 ghost use mathlib.Core.Path.{_≡_};
 ghost use Rattle.survey.specs.Survey.{outcome, applied, leaves, fresh, declare, giveFactor, openLine, end};
 ghost use Rattle.survey.specs.Apply.{applyMeasured, applyHeight, applyClose, apply};
-ghost use Rattle.survey.specs.Change.{changed, HasPlace};
-
-// How many lines a book has at most.
-pub const MOST_LINES: usize = 32;
+ghost use Rattle.survey.specs.Changed.{changed, HasPlace};
 
 pub struct Survey {
     // What each species was declared with, by its id; gravity 0: not declared.

@@ -20,9 +20,10 @@ use Rattle.biomass.specs.Law.Mean.{mean-range}
 use Rattle.biomass.specs.Law.Tree.{Operands}
 use Rattle.biomass.specs.Law.Answers.{mean-answers, trees-answers, line-tariff-answers, row-answers}
 use Rattle.line.specs.Line.{tallied, tariffOf, T-of, d-of, N-of, wholeCm, noTrees, estimatedRow, emptyRow}
-use Rattle.survey.specs.Survey.{mostLines, withRow, measure, giveHeight, f-of, treeAt, someTrees, estimate, closingRow, close}
+use Rattle.survey.specs.Survey.{withRow, measure, giveHeight, f-of, treeAt, someTrees, estimate, closingRow, close}
+use Rattle.rules.specs.Checks.{mostLines, keeping}
 use Rattle.survey.specs.AsWritten.{asWritten}
-use Rattle.survey.specs.Apply.{applyMeasured, applyHeight, keeping, applyClose, apply}
+use Rattle.survey.specs.Apply.{applyMeasured, applyHeight, applyClose, apply}
 use Rattle.line.specs.AnyLine.{mostSquares, mostTariffs, addTrees, addHeight, worked, lineRow}
 use Rattle.survey.specs.Valid.{ValidSpecies, ValidTally, ValidHeights, Valid}
 use Rattle.survey.specs.Law.Checks.{when-same, unless-same, when-then, unless-then, cond-then, then-then, passed-then, answered-then}

@@ -12,17 +12,19 @@ use Rattle.biomass.specs.Whole.{inside}
 use Rattle.biomass.specs.Report.{Report, refused, gives, _then_, when}
 use Rattle.biomass.specs.Law.Report.{inside-true}
 use Rattle.line.specs.Line.{newLine}
-use Rattle.survey.specs.Survey.{speciesAt, withState, withLine, speciesInRange, declaredAs, declaring, declare, giveFactor, opened, opening, openLine, end}
-use Rattle.survey.specs.Apply.{onOpen, onLine, applyMeasured, applyHeight, applyClose, apply}
+use Rattle.survey.specs.Survey.{speciesAt, withState, withLine, declare, giveFactor, opened, openLine, end}
+use Rattle.rules.specs.Checks.{speciesInRange, declaredAs, declaring, opening, onOpen}
+use Rattle.survey.specs.Apply.{onLine, applyMeasured, applyHeight, applyClose, apply}
 use Rattle.line.specs.AnyLine.{addTrees, addHeight}
-use Rattle.survey.specs.Change.{changed, HasPlace, decision, named, seenOf, opens, updates, changeOf, decided, own, notOwn, ownOf}
+use Rattle.rules.specs.Change.{decision, named, opens, updates, changeOf, decided, own, notOwn, ownOf}
+use Rattle.survey.specs.Changed.{changed, HasPlace, seenOf}
 use Rattle.survey.specs.Law.Checks.{Gives, when-such, passed, when-then, unless-then, then-then, species-in-range}
 use Rattle.codec.specs.declared.command.Species.{Species}
 use Rattle.codec.specs.declared.command.Command.{Command}
 use Rattle.line.specs.declared.line.Line.{Line}
 use Rattle.survey.specs.declared.survey.Survey.{Survey}
-use Rattle.survey.specs.declared.change.Change.{Change}
-use Rattle.survey.specs.declared.change.Named.{Named}
+use Rattle.rules.specs.declared.change.Change.{Change}
+use Rattle.rules.specs.declared.change.Named.{Named}
 
 -- ---- deciding, then changing
 

@@ -10,7 +10,8 @@ use Rattle.biomass.specs.Whole.{inside}
 use Rattle.biomass.specs.Report.{Report, refused, gives, unless, _then_, when}
 use Rattle.biomass.specs.Law.Report.{Inside, inside-true, true-inside, both-true}
 use Rattle.biomass.specs.Law.Gives.{never, figure-is}
-use Rattle.survey.specs.Survey.{speciesAt, speciesInRange, declared, isLine}
+use Rattle.survey.specs.Survey.{speciesAt, declared}
+use Rattle.rules.specs.Checks.{speciesInRange, isLine}
 use Rattle.survey.specs.Valid.{ValidSpecies}
 use Rattle.codec.specs.declared.command.Species.{Species}
 use Rattle.line.specs.declared.row.Row.{Row}

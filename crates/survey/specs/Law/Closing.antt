@@ -12,7 +12,8 @@ use Rattle.biomass.specs.Tree.{treeOf, rowBiomass, rowOf}
 use Rattle.biomass.specs.Law.Tree.{row-bounds}
 use Rattle.biomass.specs.Law.Answers.{row-answers}
 use Rattle.line.specs.Line.{N-of, Estimate, estimatedRow}
-use Rattle.survey.specs.Survey.{mostLines, withRow, f-of, treeAt, estimate, closingRow, close}
+use Rattle.survey.specs.Survey.{withRow, f-of, treeAt, estimate, closingRow, close}
+use Rattle.rules.specs.Checks.{mostLines}
 use Rattle.survey.specs.Apply.{apply}
 use Rattle.survey.specs.Valid.{Within, Valid}
 use Rattle.survey.specs.Law.Checks.{Gives, passed, declared-true}

@@ -18,7 +18,8 @@ use Rattle.biomass.specs.Law.Fraction.{≼-refl, ≼-trans, ⊕-mono, ⊗-mono,
 use Rattle.biomass.specs.Law.Exact.{row-den, row-not-under, row-not-over}
 use Rattle.biomass.specs.declared.units.Grams.{Grams}
 use Rattle.line.specs.Line.{Estimate, emptyRow}
-use Rattle.survey.specs.Survey.{mostLines, noLine, estimate, closingRow}
+use Rattle.survey.specs.Survey.{noLine, estimate, closingRow}
+use Rattle.rules.specs.Checks.{mostLines}
 use Rattle.survey.specs.AsWritten.{asWritten}
 use Rattle.survey.specs.Closings.{closingsOf}
 use Rattle.survey.specs.Valid.{Within, Valid}

@@ -15,7 +15,8 @@ use Rattle.biomass.specs.Law.Report.{Inside, inside-true, both-true}
 use Rattle.biomass.specs.Law.Tariff.{single-tariff-range}
 use Rattle.codec.specs.Command.{Fits}
 use Rattle.line.specs.Line.{lineWith, newLine, withTrees, withHeight, tariffOf, factorAt}
-use Rattle.survey.specs.Survey.{mostLines, speciesAt, withState, withSpecies, withFactor, withOpened, withLine, withRow, withEnd, speciesInRange, declared, declare, giveFactor, opened, areasInRange, openLine, end}
+use Rattle.survey.specs.Survey.{speciesAt, withState, withSpecies, withFactor, withOpened, withLine, withRow, withEnd, declared, declare, giveFactor, opened, openLine, end}
+use Rattle.rules.specs.Checks.{mostLines, speciesInRange, areasInRange}
 use Rattle.survey.specs.Closings.{closing}
 use Rattle.survey.specs.Apply.{onLine, applyMeasured, applyHeight, applyClose, apply}
 use Rattle.line.specs.AnyLine.{addTrees, addHeight}

@@ -8,7 +8,8 @@ use borrow.Author.Tests.{eqb-false, leb-true, leb-false}
 use Rattle.biomass.specs.Report.{refused}
 use Rattle.biomass.specs.Limits.{mostMeasured, mostHeights}
 use Rattle.biomass.specs.Law.Declines.{Declines}
-use Rattle.survey.specs.Survey.{mostLines, declare, giveFactor, openLine, end}
+use Rattle.survey.specs.Survey.{declare, giveFactor, openLine, end}
+use Rattle.rules.specs.Checks.{mostLines}
 use Rattle.survey.specs.Apply.{applyMeasured, applyHeight, applyClose, apply}
 use Rattle.line.specs.AnyLine.{addTrees, addHeight}
 use Rattle.survey.specs.Valid.{Valid}

@@ -25,7 +25,7 @@ use Rattle.survey.specs.Apply.{onLine, apply, reached}
 use Rattle.survey.specs.Valid.{Valid}
 use Rattle.survey.specs.Playing.{Played, ended, stopped, takenTo, stepBy, step, met, afterEnd, playUpToBy, playUpTo, playFrom, playBy, play, playList}
 use Rattle.survey.specs.LineUpdate.{Update, lineUpdated, otherCommand, updatedTo, updateBy, updateLine}
-use Rattle.survey.specs.Change.{Own, own, notOwn, ownOf}
+use Rattle.rules.specs.Change.{Own, own, notOwn, ownOf}
 use Rattle.codec.specs.Law.Bytes.{Stands, stands-first, stands-second, stands-itself}
 use Rattle.codec.specs.Law.RoundTrip.{read-encoded, read-moves}
 use Rattle.survey.specs.Law.Reach.{read-declines, read-at-end, reach-refused, reach-on, AllFit, none, and-next}

@@ -11,7 +11,8 @@ use Rattle.biomass.specs.Report.{gives}
 use Rattle.codec.specs.Bytes.{AllBytes}
 use Rattle.codec.specs.Command.{Fits}
 use Rattle.line.specs.Line.{emptyRow}
-use Rattle.survey.specs.Survey.{mostLines, noLine, fresh, closingRow}
+use Rattle.survey.specs.Survey.{noLine, fresh, closingRow}
+use Rattle.rules.specs.Checks.{mostLines}
 use Rattle.survey.specs.Valid.{rowAt, Valid}
 use Rattle.survey.specs.Playing.{ended, play}
 use Rattle.survey.specs.Sheet.{sheetLength, rowsOf, findRow}

@@ -12,7 +12,7 @@ use lib.Seq.{length-take-le, take-suc}
 use borrow.Author.Tests.{le-leb}
 use Rattle.biomass.specs.Report.{gives}
 use Rattle.codec.specs.Bytes.{byte, storedAt}
-use Rattle.survey.specs.Survey.{mostLines}
+use Rattle.rules.specs.Checks.{mostLines}
 use Rattle.survey.specs.Valid.{Valid}
 use Rattle.survey.specs.Sheet.{sheetLength, sheetBytes, rowsOf, findRow}
 use Rattle.line.specs.Row.{rowLength, rowBytes}

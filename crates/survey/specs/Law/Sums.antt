@@ -10,7 +10,7 @@ use Rattle.biomass.specs.Limits.{mostEstimated}
 use Rattle.biomass.specs.Project.{projectOf, greatestSum, project}
 use Rattle.biomass.specs.Law.Report.{true-inside}
 use Rattle.biomass.specs.Law.Tree.{greatestRow}
-use Rattle.survey.specs.Survey.{mostLines}
+use Rattle.rules.specs.Checks.{mostLines}
 use Rattle.survey.specs.Total.{sumOf, rowTrees, lowOf, highOf, sums}
 use Rattle.line.specs.declared.row.Row.{Row}
 

@@ -14,7 +14,8 @@ use lib.Dec.{ltb}
 use Rattle.biomass.specs.Whole.{inside}
 use Rattle.biomass.specs.Report.{Report, refused, gives}
 use Rattle.line.specs.Line.{factorAt, emptyRow}
-use Rattle.survey.specs.Survey.{leaves, mostLines, undeclared, noLine, fresh, speciesAt, withTables, withState, declared, isLine, anyLine, opened, closingRow}
+use Rattle.survey.specs.Survey.{leaves, undeclared, noLine, fresh, speciesAt, withTables, withState, declared, opened, closingRow}
+use Rattle.rules.specs.Checks.{mostLines, isLine, anyLine}
 use Rattle.survey.specs.Apply.{apply, reached}
 use Rattle.survey.specs.Valid.{ValidSpecies, ValidFactor, ValidLine, Within, Apart, none, more, Valid}
 use Rattle.survey.specs.Sheet.{rowsOf}

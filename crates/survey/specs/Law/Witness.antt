@@ -10,7 +10,8 @@ use lib.Dec.{lit≤, lit<}
 use Rattle.biomass.specs.Report.{Report, refused, gives}
 use Rattle.biomass.specs.Limits.{mostMeasured, mostHeights}
 use Rattle.line.specs.Line.{newLine, withTrees, factorAt}
-use Rattle.survey.specs.Survey.{After, leaves, mostLines, undeclared, fresh, speciesAt, withSpecies, withOpened, withLine, declare, opened, openLine, end}
+use Rattle.survey.specs.Survey.{After, leaves, undeclared, fresh, speciesAt, withSpecies, withOpened, withLine, declare, opened, openLine, end}
+use Rattle.rules.specs.Checks.{mostLines}
 use Rattle.survey.specs.Apply.{applyMeasured, apply}
 use Rattle.line.specs.AnyLine.{addTrees}
 use Rattle.survey.specs.Valid.{Valid}

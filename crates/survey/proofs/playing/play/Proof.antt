@@ -12,15 +12,15 @@ use borrow.Author.Needs.{needs}
 use Rattle.biomass.specs.Report.{gives}
 use Rattle.codec.specs.Reading.{read, reading}
 use Rattle.survey.specs.Survey.{fresh, withLine, withEnd, opened}
-use Rattle.survey.specs.Change.{changed}
+use Rattle.survey.specs.Changed.{changed}
 use Rattle.survey.specs.Playing.{Played, playFrom, play}
 use Rattle.survey.specs.LineUpdate.{lineUpdate}
 use Rattle.survey.specs.Law.Change.{ChangeMade, decides, not-ended-seen}
 use Rattle.survey.specs.Law.Playing.{plays-refused, plays-after-end, On, plays-taken, plays-declined, plays-unread, update-refused, plays-updated}
 use Rattle.codec.specs.declared.command.Command.{Command}
 use Rattle.survey.specs.declared.survey.Survey.{Survey}
-use Rattle.survey.specs.declared.change.Change.{Change}
-use Rattle.survey.proofs.Check.{species-place, factor-place, row-place}
+use Rattle.rules.specs.declared.change.Change.{Change}
+use Rattle.survey.proofs.Place.{species-place, factor-place, row-place}
 use Rattle.survey.proofs.playing.play.Statement.{statement}
 use Rattle.survey.proofs.playing.play.Tie as tie
 

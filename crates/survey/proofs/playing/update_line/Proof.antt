@@ -9,7 +9,7 @@ use Rattle.biomass.specs.Report.{Report, refused, gives, _then_}
 use Rattle.biomass.specs.Law.Report.{stops, follows}
 use Rattle.codec.specs.Refusal.{number}
 use Rattle.codec.specs.Reading.{reading}
-use Rattle.survey.specs.Change.{ownOf}
+use Rattle.rules.specs.Change.{ownOf}
 use Rattle.survey.specs.LineUpdate.{Update, otherCommand, updatedTo, updateBy, updateLine}
 use Rattle.codec.specs.declared.refusal.Refusal.{Refusal}
 use Rattle.codec.specs.declared.command.Command.{Command}

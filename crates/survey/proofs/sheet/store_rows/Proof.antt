@@ -10,7 +10,7 @@ use Rattle.codec.specs.Law.Storing.{store-fits}
 use Rattle.line.specs.Row.{rowLength, rowBytes}
 use Rattle.line.specs.Law.Row.{length-row}
 use Rattle.line.specs.declared.row.Row.{Row}
-use Rattle.survey.specs.Survey.{mostLines}
+use Rattle.rules.specs.Checks.{mostLines}
 use Rattle.survey.specs.Sheet.{sheetBytes}
 use Rattle.survey.specs.Law.Sheet.{stored-one-more, stored-length}
 use Rattle.survey.proofs.sheet.store_rows.Statement.{statement}

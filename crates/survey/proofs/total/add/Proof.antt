@@ -8,7 +8,7 @@ use lib.Seq.{length-take-le}
 use Rattle.biomass.specs.Limits.{mostEstimated}
 use Rattle.biomass.specs.Ends.{between}
 use Rattle.biomass.specs.Law.Tree.{greatestRow}
-use Rattle.survey.specs.Survey.{mostLines}
+use Rattle.rules.specs.Checks.{mostLines}
 use Rattle.survey.specs.Total.{sumOf, rowTrees, lowOf, highOf}
 use Rattle.survey.specs.Law.Sums.{first-small, sums-small, sum-one-more}
 use Rattle.line.specs.declared.row.Row.{Row}

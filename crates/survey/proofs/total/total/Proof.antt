@@ -8,7 +8,7 @@ use borrow.Author.Needs.{needs}
 use borrow.Author.Tests.{lt-ltb, le-ltb}
 use Rattle.codec.specs.Refusal.{number}
 use Rattle.survey.specs.Playing.{Played, ended, stopped, played, play}
-use Rattle.survey.specs.Survey.{mostLines}
+use Rattle.rules.specs.Checks.{mostLines}
 use Rattle.codec.specs.Bytes.{storedAt}
 use Rattle.survey.specs.Sheet.{sheetLength, sheetBytes, rowsOf}
 use Rattle.survey.specs.Total.{Answer, refusedAt, totalled, totalOf, answerOf, total, storedBy, sheetAfter}

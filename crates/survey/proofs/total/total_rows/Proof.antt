@@ -13,7 +13,7 @@ use Rattle.biomass.specs.declared.report.Carbon.{Carbon}
 use Rattle.biomass.specs.declared.report.Refusal.{Refusal}
 use Rattle.biomass.specs.declared.units.BiomassRange.{BiomassRange}
 use Rattle.biomass.specs.declared.units.CarbonRange.{CarbonRange}
-use Rattle.survey.specs.Survey.{mostLines}
+use Rattle.rules.specs.Checks.{mostLines}
 use Rattle.survey.specs.Sheet.{sheetLength, sheetBytes}
 use Rattle.codec.specs.Bytes.{storedAt}
 use Rattle.survey.specs.Total.{totalled, sumOf, rowTrees, sums, totalOf}

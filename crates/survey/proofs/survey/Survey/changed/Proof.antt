@@ -2,10 +2,10 @@
 use native.Mathlib.Omega.{arith}
 use mathlib.Core.Path.{_≡_, _∙_, sym, ap}
 use Rattle.survey.specs.Survey.{After, leaves}
-use Rattle.survey.specs.Change.{changed}
+use Rattle.survey.specs.Changed.{changed}
 use Rattle.survey.specs.declared.survey.Survey.{Survey}
-use Rattle.survey.specs.declared.change.Change.{Change}
-use Rattle.survey.proofs.Check.{species-place, factor-place, row-place}
+use Rattle.rules.specs.declared.change.Change.{Change}
+use Rattle.survey.proofs.Place.{species-place, factor-place, row-place}
 use borrow.Author.Needs.{needs}
 use Rattle.survey.proofs.survey.Survey.changed.Statement.{statement}
 use Rattle.survey.proofs.survey.Survey.changed.Tie as tie
