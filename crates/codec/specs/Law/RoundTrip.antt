@@ -92,7 +92,7 @@ pub record ReadIsEncoded (s : List ℕ) (at next : ℕ) (c : Command) : Type 0 w
   pub fits : Fits c
   pub next-is : next ≡ at + length (encode c)
   pub inside : next ≤ length s
-  pub taken : take (length (encode c)) (drop at s) ≡ encode c
+  pub encoded-there : take (length (encode c)) (drop at s) ≡ encode c
 
 -- a command's byte that was met or not
 by-byte : {X : Type 0} (b k : ℕ) (x y : Report (Command × ℕ)) {r : Command × ℕ}
@@ -111,7 +111,7 @@ module _ (s : List ℕ) (at next : ℕ) (c : Command) where
       → _≡_ {A = Report (Command × ℕ)} (gives (d, after)) (gives (c, next)) → ReadIsEncoded s at next c
   gives-encoded d after f h after-is enough e =
       subst (λ (r : Command × ℕ). ReadIsEncoded s at (r .1) (r .0)) (figure-is e)
-      (record { fits = f; next-is = after-is; inside = enough; taken = stands-taken (encode d) s at h (omega arith) })
+      (record { fits = f; next-is = after-is; inside = enough; encoded-there = stands-taken (encode d) s at h (omega arith) })
 
   with-operands-encoded : (width : ℕ) (d : Command) → Fits d → Stands (encode d) s at → length (encode d) ≡ 1 + width
       → withOperands s (at + 1) width d ≡ gives (c, next) → ReadIsEncoded s at next c
@@ -239,7 +239,7 @@ pub read-write : (s : List ℕ) (at next : ℕ) (c : Command) → AllBytes s →
 read-write s at next c all e =
     let r = read-is-encoded s at next c all e in
     let fits : at + length (encode c) ≤ length s = omega arith in
-    (rw (r .next-is) (write-gives s at c fits), store-fits s at (encode c) fits ∙ stored-again s at (encode c) (r .taken))
+    (rw (r .next-is) (write-gives s at c fits), store-fits s at (encode c) fits ∙ stored-again s at (encode c) (r .encoded-there))
 
 -- both as the promises say them, of any answer; x is the buffer after writing
 pub reads-back : {x : List ℕ} (b : List ℕ) (at : ℕ) (c : Command) (r : Report ℕ) → Fits c → r ≡ write b at c → x ≡ bufferAfter b at c

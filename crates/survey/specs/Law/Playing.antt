@@ -41,26 +41,26 @@ use Rattle.survey.specs.declared.survey.Survey.{Survey}
 -- ---- one command
 
 -- a command that was read and applied, taken apart
-pub record Taken (book : List ℕ) (at : ℕ) (s t : Survey) (next : ℕ) : Type 0 where
+pub record ReadAndApplied (book : List ℕ) (at : ℕ) (s t : Survey) (next : ℕ) : Type 0 where
   pub command : Command
   pub is-read : read book at ≡ gives (command, next)
   pub is-applied : apply command s ≡ gives t
 
-pub taken : (book : List ℕ) (at : ℕ) (s t : Survey) (next : ℕ) → step book at s ≡ gives (t, next) → Taken book at s t next
+pub read-and-applied : (book : List ℕ) (at : ℕ) (s t : Survey) (next : ℕ) → step book at s ≡ gives (t, next) → ReadAndApplied book at s t next
 unfolding stepBy
-taken book at s t next e =
+read-and-applied book at s t next e =
     let r = made (read book at) _ e in
     let a = made (apply (r .figure .0) s) _ (r .next) in
-    subst (λ (x : Survey × ℕ). Taken book at s (x .0) (x .1)) (figure-is (a .next))
+    subst (λ (x : Survey × ℕ). ReadAndApplied book at s (x .0) (x .1)) (figure-is (a .next))
     (record { command = r .figure .0; is-read = r .gave; is-applied = a .gave })
 
 -- a command that is read and applied ends past its place and within the book
 pub step-moves : (book : List ℕ) (at : ℕ) (s t : Survey) (next : ℕ) → step book at s ≡ gives (t, next) → (at < next) × (next ≤ length book)
-step-moves book at s t next e = let k = taken book at s t next e in read-moves book at (k .command) next (k .is-read)
+step-moves book at s t next e = let k = read-and-applied book at s t next e in read-moves book at (k .command) next (k .is-read)
 
 -- and leaves a valid survey valid
 pub step-valid : (book : List ℕ) (at : ℕ) (s t : Survey) (next : ℕ) → Valid s → step book at s ≡ gives (t, next) → Valid t
-step-valid book at s t next v e = let k = taken book at s t next e in apply-valid (k .command) s t v (k .is-applied)
+step-valid book at s t next v e = let k = read-and-applied book at s t next e in apply-valid (k .command) s t v (k .is-applied)
 
 -- ---- how playing goes on from a place
 
@@ -376,7 +376,7 @@ reaches (suc most) book at s t =
     rw (reach-refused book at 1 (read-at-end book at (ltb-false at (length book) none-left))) (survey-is e)))
     (λ not-ended.
     met-cases Goal at (step book at s) _ (λ n refuses e. is-stopped e) (λ r gave e.
-    let k = taken book at s (r .0) (r .1) gave in
+    let k = read-and-applied book at s (r .0) (r .1) gave in
     rw (reach-on book at (k .command) (r .1) (k .is-read))
     (reached-on (k .command) (reach book (r .1) .commands) s (r .0) (k .is-applied) ∙ reaches most book (r .1) (r .0) t e)))
 

@@ -154,7 +154,7 @@ reach-encoded s from all =
     let inside : at ≤ length s = omega (arith, first .next-is, first .inside) in
     record {
       fit = and-next (first .fits) (rest .fit);
-      stands = stands-append (taken-stands (encode c) s at inside (first .taken)) (stands-at (rest .stands) (first .next-is));
+      stands = stands-append (taken-stands (encode c) s at inside (first .encoded-there)) (stands-at (rest .stands) (first .next-is));
       stop-is = omega (arith, rest .stop-is, first .next-is, length-append (encode c) (encodeAll (r .commands)));
     }) from
 

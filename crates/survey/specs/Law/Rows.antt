@@ -23,7 +23,7 @@ use Rattle.line.specs.Law.Row.{RowFits}
 use Rattle.survey.specs.Law.Closing.{closes-to}
 use Rattle.survey.specs.Law.Effect.{Effect, a-species, a-factor, the-line, a-row, effect}
 use Rattle.survey.specs.Law.Valid.{always, fresh-valid, set-cases}
-use Rattle.survey.specs.Law.Playing.{taken, step-valid, kept-to-the-end, play-valid}
+use Rattle.survey.specs.Law.Playing.{read-and-applied, step-valid, kept-to-the-end, play-valid}
 use Rattle.survey.specs.Law.Total.{sheet-applied}
 use Rattle.codec.specs.declared.command.Command.{Command}
 use Rattle.line.specs.declared.row.Row.{Row}
@@ -62,7 +62,7 @@ module _ (book : List ℕ) (s : Survey) (all : AllBytes book) (accepted : play b
   kept =
       kept-to-the-end book (λ s. Valid s × Strata s)
       (λ at s t next k e.
-      let one = taken book at s t next e in
+      let one = read-and-applied book at s t next e in
       let fits = read-is-encoded book at next (one .command) all (one .is-read) .fits in
       (step-valid book at s t next (k .0) e, strata-kept (effect (one .command) s t (one .is-applied)) fits (k .0) (k .1)))
       (fresh-valid, fresh-strata) s accepted
