@@ -1,6 +1,6 @@
 -- From a test of the code to a check of the definition: where the check fails, the report is its refusal, and where it is passed, what follows it. (Law.Report
 -- of `biomass` has these for a test, and for what a figure answers.)
-use Prim.Native.Nat.{ℕ, _-_, _≤_, _<_, zero-le}
+use Prim.Native.Nat.{ℕ, _≤_, _<_, zero-le}
 use mathlib.Core.Path.{_≡_, _∙_, sym, ap}
 use mathlib.Core.Bool.{Bool, true, false, not, cond}
 use native.Mathlib.Omega.{arith}

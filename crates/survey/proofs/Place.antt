@@ -1,5 +1,5 @@
 -- What a change is known to be has its place in the survey's tables.
-use Prim.Native.Nat.{ℕ, _-_, _<_}
+use Prim.Native.Nat.{ℕ, _<_}
 use mathlib.Core.Path.{_≡_, subst}
 use Rattle.rules.specs.Checks.{mostLines}
 use Rattle.survey.specs.Changed.{HasPlace}
