@@ -3,14 +3,15 @@
 use Prim.Native.Nat.{ℕ}
 use mathlib.Core.Bool.{Bool, true, false}
 use mathlib.Core.List.{List}
-use lib.Dec.{ltb}
-use Rattle.biomass.specs.Report.{Report, refused, gives, when}
+use lib.Dec.{leb, ltb}
+use Rattle.biomass.specs.Report.{Report, refused, gives, unless, when, _then_}
 use Rattle.codec.specs.Refusal.{number}
 use Rattle.line.specs.Line.{newLine, factorAt}
-use Rattle.rules.specs.Checks.{declaredAs, declaring, giving, opening, ending, onOpen, keeping}
+use Rattle.rules.specs.Checks.{mostLines, declaredAs, declaring, giving, opening, ending}
 use Rattle.line.specs.AnyLine.{addTrees, addHeight, lineRow}
 use Rattle.codec.specs.declared.command.Species.{Species}
 use Rattle.codec.specs.declared.command.Command.{Command}
+use Rattle.line.specs.declared.row.Row.{Row}
 use Rattle.line.specs.declared.line.Line.{Line}
 use Rattle.rules.specs.declared.change.Change.{Change}
 use Rattle.rules.specs.declared.change.Named.{Named}
@@ -34,6 +35,21 @@ named (Command.Measured class count) = record { line = false; stratum = 0; speci
 named (Command.Height cm tenths) = record { line = false; stratum = 0; species = 0 }
 named Command.Close = record { line = false; stratum = 0; species = 0 }
 named Command.End = record { line = false; stratum = 0; species = 0 }
+
+-- What the code asks of a survey with a command of the open line, and of one with a closing, beside what the line itself declines.
+-- a command of the open line, with what becomes of the line
+abbrev pub onOpen : {A : Type 0} → Bool → Report Line → (Line → Report A) → Report A
+onOpen is-open after next =
+    unless is-open 10
+    (after then next)
+
+-- closing, with the row that the line leaves; the last check declines a survey with a line open and 32 closed
+abbrev pub keeping : {A : Type 0} → Bool → ℕ → Report Row → (Row → Report A) → Report A
+keeping is-open closed row next =
+    unless is-open 10
+    (row then λ r.
+    when (leb mostLines closed) 11
+    (next r))
 
 -- What each command changes of a survey that has not ended, by what it sees of it, the line and the factors: an opening, a command of the open line with what
 -- becomes of the line, a closing, the end

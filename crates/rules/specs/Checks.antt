@@ -1,15 +1,14 @@
--- "What each operation may decline": the checks of the commands in document 01's order, each over the values that it looks at. Those of the open line's own
--- commands and of a closing stand in survey/specs/Survey.antt as document 01 has them; here is what the code asks around them.
+-- "What each operation may decline", of a declaration, an opening and the end: the checks in document 01's order, each over the values that it looks at. Those of
+-- the open line's own commands and of a closing are survey/specs/Survey.antt.
 use Prim.Native.Nat.{ℕ}
 use mathlib.Core.Bool.{Bool, true, false, cond}
 use mathlib.Core.List.{List, [], _∷_}
 use lib.Dec.{leb, ltb, eqb}
 use Rattle.biomass.specs.Whole.{inside}
-use Rattle.biomass.specs.Report.{Report, unless, when, _then_}
+use Rattle.biomass.specs.Report.{Report, unless, when}
 use Rattle.biomass.specs.Limits.{greatestArea}
 use Rattle.codec.specs.declared.command.Species.{Species}
 use Rattle.line.specs.declared.row.Row.{Row}
-use Rattle.line.specs.declared.line.Line.{Line}
 
 -- "Limits: 32 lines"
 abbrev pub mostLines : ℕ
@@ -63,17 +62,3 @@ opening p q is-open is-declared before closed next =
 -- "Ending: 9."
 abbrev pub ending : {A : Type 0} → Bool → Report A → Report A
 ending is-open next = when is-open 9 next
-
--- a command of the open line, with what becomes of the line
-abbrev pub onOpen : {A : Type 0} → Bool → Report Line → (Line → Report A) → Report A
-onOpen is-open after next =
-    unless is-open 10
-    (after then next)
-
--- closing, with the row that the line leaves; the last check declines a survey with a line open and 32 closed
-abbrev pub keeping : {A : Type 0} → Bool → ℕ → Report Row → (Row → Report A) → Report A
-keeping is-open closed row next =
-    unless is-open 10
-    (row then λ r.
-    when (leb mostLines closed) 11
-    (next r))

@@ -4,7 +4,7 @@
 use Prim.Native.Nat.{ℕ}
 use mathlib.Core.List.{List, [], _∷_}
 use Rattle.biomass.specs.Report.{Report, gives, when}
-use Rattle.rules.specs.Checks.{onOpen, keeping}
+use Rattle.rules.specs.Change.{onOpen, keeping}
 use Rattle.line.specs.AnyLine.{addTrees, addHeight, lineRow}
 use Rattle.survey.specs.Survey.{leaves, withLine, withRow, declare, giveFactor, openLine, end}
 use Rattle.codec.specs.declared.command.Command.{Command}

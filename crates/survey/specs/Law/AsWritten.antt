@@ -21,7 +21,8 @@ use Rattle.biomass.specs.Law.Tree.{Operands}
 use Rattle.biomass.specs.Law.Answers.{mean-answers, trees-answers, line-tariff-answers, row-answers}
 use Rattle.line.specs.Line.{tallied, tariffOf, T-of, d-of, N-of, wholeCm, noTrees, estimatedRow, emptyRow}
 use Rattle.survey.specs.Survey.{withRow, measure, giveHeight, f-of, treeAt, someTrees, estimate, closingRow, close}
-use Rattle.rules.specs.Checks.{mostLines, keeping}
+use Rattle.rules.specs.Checks.{mostLines}
+use Rattle.rules.specs.Change.{keeping}
 use Rattle.survey.specs.AsWritten.{asWritten}
 use Rattle.survey.specs.Apply.{applyMeasured, applyHeight, applyClose, apply}
 use Rattle.line.specs.AnyLine.{mostSquares, mostTariffs, addTrees, addHeight, worked, lineRow}

@@ -13,10 +13,10 @@ use Rattle.biomass.specs.Report.{Report, refused, gives, _then_, when}
 use Rattle.biomass.specs.Law.Report.{inside-true}
 use Rattle.line.specs.Line.{newLine}
 use Rattle.survey.specs.Survey.{speciesAt, withState, withLine, declare, giveFactor, opened, openLine, end}
-use Rattle.rules.specs.Checks.{speciesInRange, declaredAs, declaring, opening, onOpen}
+use Rattle.rules.specs.Checks.{speciesInRange, declaredAs, declaring, opening}
 use Rattle.survey.specs.Apply.{onLine, applyMeasured, applyHeight, applyClose, apply}
 use Rattle.line.specs.AnyLine.{addTrees, addHeight}
-use Rattle.rules.specs.Change.{decision, named, opens, updates, changeOf, decided, own, notOwn, ownOf}
+use Rattle.rules.specs.Change.{decision, named, opens, updates, changeOf, decided, own, notOwn, ownOf, onOpen}
 use Rattle.survey.specs.Changed.{changed, HasPlace, seenOf}
 use Rattle.survey.specs.Law.Checks.{Gives, when-such, passed, when-then, unless-then, then-then, species-in-range}
 use Rattle.codec.specs.declared.command.Species.{Species}
