@@ -1,5 +1,4 @@
--- A part's low and high. Steps 4 to 6 subtract on the way, so they are worked in ℤ; Law shows of each part that both ends come out at 0
--- or above, so that `range`, which the code hands back, has the same numbers.
+-- A part's low and high. Steps 4 to 6 subtract on the way, so they are worked in ℤ, and the ends come out there.
 use Prim.Native.Nat.{ℕ, _+_}
 use mathlib.Core.List.{List, []}
 use lib.ListN.{getD}
@@ -12,13 +11,17 @@ pub record Ends : Type 0 where
   pub low : ℤ
   pub high : ℤ
 
+-- a low and a high in mg, as the code has them
 abbrev pub between : ℕ → ℕ → BiomassRange
 between l h = record { low = record { 0 = l }; high = record { 0 = h } }
 
+-- The ends as the code hands them back, which are numbers without a sign. natAbs has no sign to take off here: both ends of each part are 0 or above,
+-- wherever the operands are in their ranges (Law.Tree: parts-bounded)
 abbrev pub range : Ends → BiomassRange
 range e = between (natAbs (e .low)) (natAbs (e .high))
 
--- The number in a column of a group's row
+-- The number in a table, by its row and its column, both counted from 0. The groups are the rows; a group past the last, which `crown` and `root` refuse,
+-- has an empty row and 0 in each column
 abbrev pub entry : List (List ℤ) → ℕ → ℕ → ℤ
 entry table group column = getD (getD table group []) column (pos 0)
 

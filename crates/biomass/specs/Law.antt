@@ -12,6 +12,8 @@
 --     Declines                                a figure is declined with 6 alone, and a single tariff with 6 or 13
 --     Declines: unless-declines, then-declines    and what is made of checks and of other reports, with their numbers alone
 --     Fraction                                sums, shares and the order of fractions
+--     Project: none-of-equal, project-gap, project-not-over   what demand 3 says of the project's two figures, clause by clause
+--     Marked: marked-hold                     document 01's marked lines (a) to (i)
 
 -- numbers: div; differences of naturals
 pub mod Whole
@@ -34,3 +36,6 @@ pub mod Declines
 pub mod Fraction
 pub mod StemExact
 pub mod Exact
+pub mod Project
+-- document 01's marked lines
+pub mod Marked

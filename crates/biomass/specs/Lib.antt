@@ -1,10 +1,49 @@
 -- The law of this crate, in the order of document 01: what each figure is. Each definition stands under the sentence that it states.
 --
--- How to read these files. `f : ℕ → ℤ` says that f makes a whole number of either sign (ℤ) of one that is 0 or more (ℕ); the line below it
--- says which. `f x y` is f at x and y. `pos n` is n as a number of either sign, `negsuc n` is −(n + 1), and `+ℤ`, `-ℤ`, `*ℤ` are the sum,
--- the difference and the product there. `/` and `div` divide and drop the remainder. `cond test a b` is a where the test holds and b where it
--- fails, and `leb x y`, `eqb x y` are the tests x ≤ y and x = y. `record { .. }` gives the parts of something by name, and `t .d` is t's d.
--- `abbrev` and `unfoldable` matter only to proofs.
+-- HOW TO READ specs/, here and in every other crate. A file says what things are; a line that begins with two dashes is a remark. The signs:
+--
+-- Definitions
+--     f : ℕ → ℕ → ℤ           f makes a whole number of either sign (ℤ) of two that are 0 or more (ℕ). The lines below it say which
+--     f x y                   f at x and y. Of `_div_` the two stand on both sides: x div m
+--     f zero = ..             f by cases: what it is at 0,
+--     f (suc n) = ..          and what it is at n + 1, in words of n. So too by the cases of anything else
+--     λ x. e                  the function that makes e of x
+--     let x = e in r          r, with e for x. `where`: what stands below is used in what stands above
+--     {A : Type 0} → ..       of any kind A of thing. It is not written where f is used
+-- Whole numbers
+--     x + y, x * y, x ^ y     sum, product, and x to the power y. x / y and x % y: the quotient without its remainder, and the remainder
+--     x - y                   is cut off at 0 where y is above x. Wherever a definition has it, a proof stands beside it that nothing is cut off
+--     pos n, negsuc n         the numbers of ℤ: n itself, and −(n + 1). negℤ x is −x; natAbs x is x without its sign
+--     +ℤ -ℤ *ℤ                sum, difference and product in ℤ
+--     x div m                 the quotient in ℤ, "toward the lesser whole number": −1 div 10 = −1, −10 div 10 = −1, −11 div 10 = −2, and 19 div 10 = 1
+-- Tests, which come out true or false
+--     leb x y, ltb x y, eqb x y, leZ x y      x ≤ y, x < y and x = y; x ≤ y in ℤ
+--     cond test a b           a where the test is true, and b where it is false. test && other: whether both are true
+-- Things of several parts
+--     record { a = x; b = y } what has the parts a and b, and these are x and y; t .a is the part a of t
+--     (x, y)                  a pair, of the kind X × Y; p .0 and p .1 are its parts. Of a thing of one part, as `Milligrams`, m .0 is that part
+--     record R : Type 0 where what follows are the parts of an R, each with its kind
+--     data D : Type 0 where   a D is one of the cases that follow, each with what it holds
+-- Lists
+--     [], x ∷ l, l ++ m       the empty list; x and then l; l and then m
+--     length l, map f l       how many are in it; f of each
+--     getD l i z              what stands in l at i, counted from 0, and z past the end
+--     take k l, drop k l      the first k of l, and the rest
+--     set l i x, replicate n x        l with x at i; n times x
+-- Reports (Report.antt): gives x, a figure; refused n, document 01's number of a refusal. A list of checks is read from the top
+--     unless test n r         the refusal n unless the test holds; where it holds, r
+--     when test n r           the refusal n when the test holds; where it fails, r
+--     r then λ x. q           q, with x the figure that r gives; where r is a refusal, that refusal
+-- Statements, which hold or do not
+--     x ≡ y, x ≤ y, x < y     x and y are the same; x is at most y; x is less than y. x ≤ℤ y: the same in ℤ
+--     P × Q                   P and Q
+--     P → Q                   if P, then Q
+--     (g : X) → P → Q         for every g of the kind X: if P, then Q
+--     Unit, ⊥                 what always holds, and what never does. So P → ⊥ says that P does not hold
+--     AllOf l                 each statement in the list l
+--     record R .. where       a statement of several, which are all to hold. data D .. where: one that holds where one of the cases does
+-- `use` names what a file takes from others; what it takes from `declared` are the types of the code, as Rust has them: `declared.units.Grams` is the type
+-- Grams of src/units.rt. `pub`, `abbrev`, `unfoldable`, `unfolding` and `infixl` matter only to proofs and to the order of signs.
 pub mod Whole
 pub mod Report
 -- the limits of a line
@@ -22,6 +61,7 @@ pub mod Project
 -- the exact value
 pub mod Fraction
 pub mod Exact
--- what is proved of all this, and document 01's marked lines
-pub mod Law
+-- document 01's marked lines
 pub mod Marked
+-- what is proved of all this
+pub mod Law

@@ -1,20 +1,15 @@
--- Document 01's marked lines (a) to (i), as one list in its order, and one theorem: all of them hold.
--- Each entry says what the definition reports at the line's measures. Line (j) is about a book, and this layer knows no books: the layer
--- above puts it behind this list, and `all-join` of borrow.Fn.Claims makes one theorem of the two parts.
+-- Document 01's marked lines (a) to (i), as one list of statements in its order: each says what the definition reports at the line's measures. All of
+-- them hold (Law.Marked: marked-hold). Line (j) is about a book, and this crate knows no books: `survey` puts it behind this list.
 use Prim.Native.Nat.{ℕ}
-use mathlib.Core.Path.{_≡_, refl, ap}
+use mathlib.Core.Path.{_≡_}
 use mathlib.Core.List.{List, [], _∷_}
-use lib.Dec.{lit≤, lit<}
 use lib.IntN.{pos, negℤ}
-use borrow.Fn.Claims.{AllOf}
 use Rattle.biomass.specs.Report.{Report, gives, _then_}
 use Rattle.biomass.specs.Tariff.{singleTariff, lineTariff}
 use Rattle.biomass.specs.Mean.{mean}
 use Rattle.biomass.specs.Ends.{between}
-use Rattle.biomass.specs.Crown.{crown, crownEnds}
-use Rattle.biomass.specs.Root.{root, rootEnds}
-use Rattle.biomass.specs.Law.Power.{y-is, greatestY}
-use Rattle.biomass.specs.Law.Mean.{mean-between}
+use Rattle.biomass.specs.Crown.{crown}
+use Rattle.biomass.specs.Root.{root}
 use Rattle.biomass.specs.declared.units.BiomassRange.{BiomassRange}
 
 -- the last group of the roots, and the last of the crowns
@@ -49,33 +44,3 @@ marked =
     (lowOf (root redAlder 301) ≡ gives 112855665) ∷
     -- (i) "oak crown, d 501: low 273306566"
     (lowOf (crown oak 501) ≡ gives 273306566) ∷ []
-
--- Each entry of the list is proved (`AllOf`: the first, and all of the others). The tariffs and the straight lines, (a) to (c), (h) and (i), compute. A mean is the d between whose two odd squares 400·S lies, and the
--- roots of (f) and (g) come from y.
-pub marked-hold : AllOf marked
-unfolding singleTariff lineTariff mean root rootEnds crown crownEnds
-marked-hold = (
-  refl,
-  (
-    refl,
-    (
-      refl,
-      (
-        ap gives (mean-between 400 19880 70 (lit≤ tt) (lit≤ tt) (lit< tt)),
-        (
-          ap gives (mean-between 400 19881 71 (lit≤ tt) (lit≤ tt) (lit< tt)),
-          (
-            ap gives (mean-between 1 49 70 (lit≤ tt) (lit≤ tt) (lit< tt)),
-            (
-              rw (y-is 100 31622776 (lit≤ tt) (lit< tt)),
-              (
-                rw (y-is 300 greatestY (lit≤ tt) (lit< tt)),
-                (refl, refl),
-              ),
-            ),
-          ),
-        ),
-      ),
-    ),
-  ),
-)

@@ -2,3 +2,4 @@
 pub mod Complement
 pub mod Operands
 pub mod Digits
+pub mod Place

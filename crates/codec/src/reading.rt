@@ -119,16 +119,14 @@ pub fn read(book: &[u8], at: usize) -> Reading
 pub fn read_of_line(book: &[u8], at: usize) -> Reading
     ensures { λ r. ⌜ reading r ≡ read (now (book .entry)) at ⌝ }
 {
-    if at < book.len() {
-        let byte = book[at];
-        if byte == 0x04 {
-            return read_measured(book, at + 1);
-        }
-        if byte == 0x05 {
-            return read_height(book, at + 1);
-        }
+    if book.len() <= at {
+        return Reading::Refused(Refusal::AtEnd);
     }
-    read(book, at)
+    match book[at] {
+        0x04 => read_measured(book, at + 1),
+        0x05 => read_height(book, at + 1),
+        _ => read(book, at),
+    }
 }
 
 // The place to go on from: after a command the place after it, and after a refusal the place where it was.

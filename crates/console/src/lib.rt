@@ -2,11 +2,11 @@
 use libc::STDIN_FILENO;
 use libc::STDOUT_FILENO;
 ghost use mathlib.Core.Path.{_≡_};
-ghost use mathlib.Core.Bool.{true};
+ghost use Prim.Native.Nat.{_≤_};
+ghost use mathlib.Core.Bool.{true, false};
 ghost use lib.Dec.{ltb};
-ghost use lib.ListN.{length};
-ghost use Rattle.io.specs.Counts.{Counts};
-ghost use Rattle.console.specs.Console.{mostBytes, FailureStays};
+ghost use lib.ListN.{length, take};
+ghost use Rattle.console.specs.Console.{mostBytes};
 
 // How many bytes a book has at most.
 const MOST_BYTES: usize = 65_536;
@@ -20,7 +20,7 @@ pub fn input_buffer() -> [u8; 65_537]
 
 // Reads standard input to its end or until the buffer is full, and answers how many bytes came.
 pub fn read_input(buffer: &mut [u8]) -> usize
-    ensures { λ r. ⌜ Counts r (now (buffer .exit)) ⌝ }
+    ensures { λ r. ⌜ (r ≤ length (now (buffer .exit))) × (r ≡ length (take r (now (buffer .exit)))) ⌝ }
 {
     io::read_full(STDIN_FILENO, buffer)
 }
@@ -36,8 +36,8 @@ pub fn too_long(n: usize) -> bool
     false
 }
 
-// Standard output, and whether all that was printed is out. Past a write that fails nothing more is written: what comes
-// out is always a beginning of the text, and no number is cut in its middle and gone on with.
+// Standard output, and whether all that was printed is out. Past a write that fails nothing more is written, and the output
+// stays as it is: what comes out is always a beginning of the text, and no number is cut in its middle and gone on with.
 pub struct Output {
     pub good: bool,
 }
@@ -50,7 +50,7 @@ impl Output {
     }
 
     pub fn text(self, bytes: &[u8]) -> Output
-        ensures { λ r. ⌜ FailureStays (self .good) (r .good) ⌝ }
+        ensures { λ r. ⌜ (self .good ≡ false → r ≡ self) ⌝ }
     {
         if !self.good {
             return self;
@@ -61,7 +61,7 @@ impl Output {
     }
 
     pub fn number(self, n: u64) -> Output
-        ensures { λ r. ⌜ FailureStays (self .good) (r .good) ⌝ }
+        ensures { λ r. ⌜ (self .good ≡ false → r ≡ self) ⌝ }
     {
         if !self.good {
             return self;
@@ -73,14 +73,14 @@ impl Output {
 
     // A number after the word for it.
     pub fn named(self, word: &[u8], n: u64) -> Output
-        ensures { λ r. ⌜ FailureStays (self .good) (r .good) ⌝ }
+        ensures { λ r. ⌜ (self .good ≡ false → r ≡ self) ⌝ }
     {
         self.text(word).number(n)
     }
 
     // The line of a refusal: its number, and its place.
     pub fn refusal(self, number: u8, at: usize) -> Output
-        ensures { λ r. ⌜ FailureStays (self .good) (r .good) ⌝ }
+        ensures { λ r. ⌜ (self .good ≡ false → r ≡ self) ⌝ }
     {
         self.named(b"refused ", number as u64)
             .named(b" at ", at as u64)

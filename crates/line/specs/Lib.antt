@@ -1,5 +1,5 @@
 -- The law of this crate: what is noted of a line, what that comes to, and the row that it leaves. How to read these files is said in
--- biomass/specs/Lib.antt and codec/specs/Lib.antt.
+-- biomass/specs/Lib.antt.
 pub mod Line
 pub mod Row
 -- what the code does of any line

@@ -17,7 +17,8 @@ asWritten (Command.Height cm tenths) s = giveHeight cm tenths s
 asWritten Command.Close s = close s
 asWritten Command.End s = end s
 
--- The refusals that document 01 names for each command, in its order. "5 the book has ended, first of all."
+-- The numbers that document 01 names for each command, as a set: no other is told of a valid survey (Law.Named: only-named). In which order they are asked for
+-- is said by the checks themselves (Survey, rules/specs/Checks.antt). "5 the book has ended, first of all."
 abbrev pub numbersOf : Command → List ℕ
 -- "Species and factor: 6 operand outside its range; 7 already given."
 numbersOf (Command.Species id species) = 5 ∷ 6 ∷ 7 ∷ []

@@ -5,11 +5,12 @@ use Prim.Native.Nat.{ℕ, suc, _+_, _/_, _≤_, _<_}
 use mathlib.Core.Path.{_≡_}
 use mathlib.Core.Bool.{cond}
 use mathlib.Core.List.{List, [], _∷_, map}
+use lib.ListN.{getD}
 use lib.Dec.{eqb}
 use lib.IntN.{pos}
 use Rattle.biomass.specs.Fraction.{Fraction, whole, _⊕_, _⊗_, _over_, _≼_}
 use Rattle.biomass.specs.Exact.{Given, NotBelow, NotAbove, exactRow}
-use Rattle.line.specs.Line.{Estimate}
+use Rattle.line.specs.Line.{Estimate, noTrees}
 use Rattle.survey.specs.Survey.{estimate}
 use Rattle.survey.specs.Closings.{closingsOf}
 use Rattle.survey.specs.Total.{Answer, refusedAt, totalled}
@@ -25,10 +26,13 @@ unfoldable pub treesAdded : List Estimate → ℕ
 treesAdded [] = 0
 treesAdded (l ∷ ls) = l .N + treesAdded ls
 
--- what holds of each line, with its number, counted from 0
-pub data Each (P : ℕ → Estimate → Type 0) : ℕ → List Estimate → Type 0 where
-  none : (i : ℕ) → Each P i []
-  more : (i : ℕ) (l : Estimate) (ls : List Estimate) → P i l → Each P (suc i) ls → Each P i (l ∷ ls)
+-- the line with this number, counted from 0; past the last one there are no trees
+abbrev pub lineAt : List Estimate → ℕ → Estimate
+lineAt ls i = getD ls i noTrees
+
+-- "every N is 0"
+abbrev pub EveryNIs0 : List Estimate → Type 0
+EveryNIs0 ls = (i : ℕ) → lineAt ls i .N ≡ 0
 
 -- ---- the exact value
 
@@ -37,30 +41,34 @@ pub record Fractions : Type 0 where
   pub crown : ℕ → Given
   pub root : ℕ → Given
 
--- "the sum, over the lines with N above 0, of N/100 times one tree's biomass in mg"
-unfoldable pub exactSum : Fractions → ℕ → List Estimate → Fraction
-exactSum g i [] = whole (pos 0)
-exactSum g i (l ∷ ls) =
-    cond (eqb (l .N) 0) (exactSum g (suc i) ls)
-    (exactRow (l .N) (l .tree) (g .crown i) (g .root i) ⊕ exactSum g (suc i) ls)
+-- those of the lines after the first
+abbrev pub afterFirst : Fractions → Fractions
+afterFirst g = record { crown = λ i. g .crown (suc i); root = λ i. g .root (suc i) }
+
+-- "the sum, over the lines with N above 0, of N/100 times one tree's biomass in mg": the first line's, with its own fractions, and that of the lines after it
+unfoldable pub exactSum : Fractions → List Estimate → Fraction
+exactSum g [] = whole (pos 0)
+exactSum g (l ∷ ls) =
+    cond (eqb (l .N) 0) (exactSum (afterFirst g) ls)
+    (exactRow (l .N) (l .tree) (g .crown 0) (g .root 0) ⊕ exactSum (afterFirst g) ls)
 
 -- "the total is the exact value, its 11/6000 included, with these in place of the powers"
 unfoldable pub exactTotal : Fractions → List Estimate → Fraction
-exactTotal g ls = whole (pos 11) over 6000 ⊗ exactSum g 0 ls
+exactTotal g ls = whole (pos 11) over 6000 ⊗ exactSum g ls
 
--- the fractions are not below the powers, or not above them, on every line with N above 0
+-- "fractions not below the powers", and "not above": for every line with N above 0, its own fractions are so for its own tree
 abbrev pub NoneBelow : Fractions → List Estimate → Type 0
-NoneBelow g ls = Each (λ i l. 0 < l .N → NotBelow (l .tree) (g .crown i) (g .root i)) 0 ls
+NoneBelow g ls = (i : ℕ) → 0 < lineAt ls i .N → NotBelow (lineAt ls i .tree) (g .crown i) (g .root i)
 
 abbrev pub NoneAbove : Fractions → List Estimate → Type 0
-NoneAbove g ls = Each (λ i l. 0 < l .N → NotAbove (l .tree) (g .crown i) (g .root i)) 0 ls
+NoneAbove g ls = (i : ℕ) → 0 < lineAt ls i .N → NotAbove (lineAt ls i .tree) (g .crown i) (g .root i)
 
 -- ---- the demand
 
 pub record Demand3 (lines : List Estimate) (low high : ℕ) : Type 0 where
   -- "they are equal exactly when every N is 0"
-  pub equal-only-when : low ≡ high → Each (λ i l. l .N ≡ 0) 0 lines
-  pub equal-when : Each (λ i l. l .N ≡ 0) 0 lines → low ≡ high
+  pub equal-only-when : low ≡ high → EveryNIs0 lines
+  pub equal-when : EveryNIs0 lines → low ≡ high
   -- "the high is at most the low + 3 + (the N of all lines added) div 1000"
   pub gap : high ≤ low + 3 + treesAdded lines / 1000
   -- "'Not under the low': whatever fractions not below the powers are given, the total is at least the low."

@@ -32,6 +32,7 @@
 --     Closings: closings-of-list              and a list's book has the list's closings
 --     Rows: rows-fit, rows-read-back          no figure of an accepted book's rows is cut off in the sheet, which gives the rows back
 --     Total: total-applied, sheet-applied     the answer of totalling and the sheet, which are those of document 01's text, are those of `apply`
+--     Total: refused-keeps                    a refused book leaves the sheet as it was
 --     Total: refusals-of-totalling            and totalling is refused with 1, 2, 3 or 5 to 16
 --     Total: place-of-refusal                 16 at 0, 1 at the book's length, and any other number at one of the book's bytes
 --     Sums: sums-small, project-gives         the sums of 32 rows, and eleven times them, fit 64 bits
@@ -42,6 +43,7 @@
 --     NotVacuous: totals-ordered, low-not-above-high      their totals are in order, and the low of every accepted book is not above its high
 --     Listing: listing-totalled, listing-sheet                totalling the listing gives what document 01 prints of it
 --     Listing: listing-accepted, listing-lines, listing-rows  it is accepted by the text, with two lines, which give its two rows
+--     Marked: marked-lines-hold               document 01's marked lines (a) to (j)
 --     WrongPrograms                           document 01's six wrong programs and its low of 0, and that what totalling promises contradicts each
 --     Witness                                 two of them again, at one command, and that what applying promises contradicts them
 
@@ -71,4 +73,5 @@ pub mod Demand3
 pub mod NotVacuous
 -- document 01's listing, and its wrong programs
 pub mod Listing
+pub mod Marked
 pub mod WrongPrograms

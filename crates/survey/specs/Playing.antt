@@ -39,6 +39,21 @@ comesTo h s = played (record { survey = s; at = h .at; outcome = h .outcome })
 abbrev pub Rules : Type 0
 Rules = Command → Survey → Report Survey
 
+-- what follows a command, unless it is refused, at its place
+abbrev pub met : {A : Type 0} → ℕ → Report A → (A → Played) → Played
+met at (refused n) next = stopped n at
+met at (gives a) next = next a
+
+-- ---- a book given as its commands
+
+-- The commands from a place on: each is applied to the survey that those before it left, and what is refused is told at its own place. A command after 07 is
+-- refused with 5 by applying it; where the commands run out before 07, reading answers 1
+unfoldable pub playListBy : Rules → List Command → ℕ → Survey → Played
+playListBy rules [] at s = cond (s .ended) (ended s) (stopped 1 at)
+playListBy rules (c ∷ cs) at s = met at (rules c s) λ t. playListBy rules cs (at + length (encode c)) t
+
+-- ---- a book given as its bytes. The same, with each command read where the one before it ends: a book of commands plays as they do (Law.Playing: play-of-list)
+
 -- one command, read at the place and applied: the survey that it leaves, and the place after it
 abbrev pub takenTo : ℕ → Report Survey → Report (Survey × ℕ)
 takenTo next after = after then λ t. gives (t, next)
@@ -46,17 +61,12 @@ takenTo next after = after then λ t. gives (t, next)
 unfoldable pub stepBy : Rules → List ℕ → ℕ → Survey → Report (Survey × ℕ)
 stepBy rules book at s = read book at then λ r. takenTo (r .1) (rules (r .0) s)
 
--- what follows a command, unless it is refused, at its place
-abbrev pub met : {A : Type 0} → ℕ → Report A → (A → Played) → Played
-met at (refused n) next = stopped n at
-met at (gives a) next = next a
-
 -- "bytes after 07 get 5 at the first of them"
 abbrev pub afterEnd : List ℕ → ℕ → Survey → Played
 afterEnd book at s = cond (ltb at (length book)) (stopped 5 at) (ended s)
 
--- The rest of the book from a place on. Each command takes a byte at least, so that with `most` above the number of bytes left it is never used up, and
--- which such number it is makes no difference (Law.Playing: enough-commands)
+-- The bytes from a place on. `most` only lets the definition end, since each turn has one less of it: each command takes a byte at least, so that `most` above
+-- the number of bytes left is never used up, and which such number it is makes no difference (Law.Playing: enough-commands)
 unfoldable pub playUpToBy : Rules → ℕ → List ℕ → ℕ → Survey → Played
 playUpToBy rules zero book at s = stopped 1 at
 playUpToBy rules (suc most) book at s =
@@ -84,9 +94,3 @@ playFrom = playFromBy apply
 
 unfoldable pub play : List ℕ → Played
 play = playBy apply
-
--- Commands as they stand in a book, from a place on: the book that holds them plays so (Law.Playing: play-of-list). A command after 07 is refused
--- with 5 by applying it, and reading answers 1 where the commands run out before 07
-unfoldable pub playList : List Command → ℕ → Survey → Played
-playList [] at s = cond (s .ended) (ended s) (stopped 1 at)
-playList (c ∷ cs) at s = met at (apply c s) λ t. playList cs (at + length (encode c)) t

@@ -29,26 +29,29 @@ unfoldable pub readAll : List ℕ → Report (List Command)
 unfolding readUpTo
 readAll s = readUpTo (length s) s 0
 
--- How far a book reads from a place on: its commands up to the first refusal, the place of that and its number, which at the end of the book is 1
+-- How far a book reads from a place on: the commands that stand there one after the other, the place where no further one is read, and the number that reading
+-- answers there, which at the end of the book is 1. Of the bytes 06 07 ff that is, from place 0, the commands 06 and 07, the place 2 and the number 2; and of 06
+-- 07 alone the same commands, the place 2 and the number 1
 pub record Reach : Type 0 where
   pub commands : List Command
   pub at : ℕ
   pub why : ℕ
 
--- no further than a refusal at the place, and a command in front of what comes after it
+-- where reading is refused at the place itself: no command
 abbrev pub stopsAt : ℕ → ℕ → Reach
 stopsAt n at = record { commands = []; at = at; why = n }
 
+-- what is reached from the place after a command, with the command in front of it
 abbrev pub inFront : Command → Reach → Reach
 inFront c r = record { commands = c ∷ r .commands; at = r .at; why = r .why }
 
--- by what is read at the place
+-- so by what is read at the place: a refusal; or a command and the place after it, from which `rest` goes on
 abbrev pub byRead : ℕ → Report (Command × ℕ) → (ℕ → Reach) → Reach
 byRead at (refused n) rest = stopsAt n at
 byRead at (gives r) rest = inFront (r .0) (rest (r .1))
 
--- As many commands are allowed as the book has bytes. Each takes a byte at least, so that at 0 no byte is left, where reading is refused with 1. Any
--- number not below that of the bytes left gives the same (Law.Reach: reach-enough)
+-- One command after the other. `most` only lets the definition end, since each turn has one less of it: each command takes a byte at least, so that no byte is
+-- left at 0, where reading is refused with 1, and any `most` not below the number of bytes left gives the same (Law.Reach: reach-enough)
 unfoldable pub reachUpTo : ℕ → List ℕ → ℕ → Reach
 reachUpTo zero s at = stopsAt 1 at
 reachUpTo (suc most) s at = byRead at (read s at) λ next. reachUpTo most s next
@@ -57,7 +60,7 @@ unfoldable pub reach : List ℕ → ℕ → Reach
 unfolding reachUpTo
 reach s from = reachUpTo (length s) s from
 
--- how many commands, the place and the number: what the code answers, and what is reached
+-- how many commands, the place and the number: of what the code answers, and of what is reached
 abbrev pub extent : Extent → ℕ × ℕ × ℕ
 extent t = (t .commands, t .at, number (t .why))
 

@@ -13,14 +13,14 @@ use codec::refusal::of_figure;
 use line::row::Row;
 use rules::change::MOST_LINES;
 ghost use mathlib.Core.Path.{_≡_};
-ghost use Prim.Native.Nat.{_≤_};
+ghost use Prim.Native.Nat.{ℕ, _≤_};
 ghost use lib.ListN.{length, take};
 ghost use Rattle.codec.specs.Bytes.{storedAt};
 ghost use Rattle.rules.specs.Checks.{mostLines};
 ghost use Rattle.survey.specs.Sheet.{sheetLength, sheetBytes};
 ghost use Rattle.survey.specs.Law.Sums.{RowsSmall};
-ghost use Rattle.survey.specs.Total.{answer, rowTrees, sumOf, sums, totalled, totalOf, total, sheetAfter};
-ghost use Rattle.survey.specs.Demand3.{Demanded};
+ghost use Rattle.survey.specs.Total.{answer, rowTrees, sumOf, sums, refusedAt, totalled, totalOf};
+ghost use Rattle.survey.specs.Promise.{Promised};
 
 // What comes of an accepted book.
 pub struct Totals {
@@ -97,9 +97,8 @@ fn total_rows(sheet: &mut [u8], rows: [Row; MOST_LINES], closed: usize) -> Total
 
 // Totals a book into a sheet. Where it is refused, the sheet is as it was.
 pub fn total(book: &[u8], sheet: &mut [u8]) -> Totalled
-    ensures answer { λ r. ⌜ answer r ≡ total (now (book .entry)) (now (sheet .entry)) ⌝ }
-    ensures stored { λ _. ⌜ now (sheet .exit) ≡ sheetAfter (now (book .entry)) (now (sheet .entry)) ⌝ }
-    ensures demand3 { λ r. ⌜ Demanded (now (book .entry)) (answer r) ⌝ }
+    ensures promise { λ r. ⌜ Promised (now (book .entry)) (now (sheet .entry)) (answer r) (now (sheet .exit)) ⌝ }
+    ensures kept { λ r. ⌜ ((n at : ℕ) → answer r ≡ refusedAt n at → now (sheet .exit) ≡ now (sheet .entry)) ⌝ }
 {
     if sheet.len() < SHEET_LENGTH {
         return Totalled::Refused {

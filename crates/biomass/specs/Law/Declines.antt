@@ -16,7 +16,6 @@ use Rattle.biomass.specs.Stem.{stem, stemEnds}
 use Rattle.biomass.specs.Crown.{crown, crownEnds}
 use Rattle.biomass.specs.Root.{root, rootEnds}
 use Rattle.biomass.specs.Tree.{tree, added, rowBiomass, rowOf}
-use Rattle.biomass.specs.Project.{project, projectOf, greatestSum}
 use Rattle.biomass.specs.Law.Gives.{never, number-is}
 use Rattle.biomass.specs.declared.units.BiomassRange.{BiomassRange}
 use Rattle.biomass.specs.declared.tree.AverageTree.{AverageTree}
@@ -115,16 +114,11 @@ root-declines g d = six (inside 0 g 5) _ (six (dInRange d) _ (gives-declines Six
 pub tree-declines : (t : AverageTree) → Declines Six (tree t)
 unfolding tree
 tree-declines t =
-    then-declines Six (stem (t .tariff) (t .d) (t .factor) (t .gravity)) _ (stem-declines (t .tariff) (t .d) (t .factor) (t .gravity)) (λ s.
-    then-declines Six (crown (t .crown) (t .d)) _ (crown-declines (t .crown) (t .d)) (λ c.
-    then-declines Six (root (t .root) (t .d)) _ (root-declines (t .root) (t .d)) (λ r.
-    gives-declines Six (added s c r))))
+    then-declines Six (stem (t .tariff) (t .d) (t .factor) (t .gravity)) _ (stem-declines (t .tariff) (t .d) (t .factor) (t .gravity)) (λ inStem.
+    then-declines Six (crown (t .crown) (t .d)) _ (crown-declines (t .crown) (t .d)) (λ inCrown.
+    then-declines Six (root (t .root) (t .d)) _ (root-declines (t .root) (t .d)) (λ inRoot.
+    gives-declines Six (added inStem inCrown inRoot))))
 
 pub row-declines : (N : ℕ) (t : AverageTree) → Declines Six (rowBiomass N t)
 unfolding rowBiomass
 row-declines N t = six (inside 0 N mostEstimated) _ (then-declines Six (tree t) _ (tree-declines t) (λ m. gives-declines Six (rowOf N m)))
-
-pub project-declines : (sums : BiomassRange) (N : ℕ) → Declines Six (project sums N)
-unfolding project
-project-declines sums N =
-    six (inside 0 (sums .low .0) greatestSum) _ (six (inside 0 (sums .high .0) greatestSum) _ (gives-declines Six (projectOf sums N)))

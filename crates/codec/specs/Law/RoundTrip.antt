@@ -10,7 +10,7 @@ use mathlib.Core.List.{List, _++_}
 use lib.ListN.{length, take, drop}
 use lib.Dec.{leb, ltb, eqb}
 use lib.IntN.{ℤ}
-use borrow.Author.Tests.{le-leb, lt-ltb, leb-true, ltb-true, eqb-true}
+use borrow.Author.Tests.{le-leb, lt-ltb, le-ltb, leb-true, ltb-true, eqb-true}
 use Rattle.biomass.specs.Report.{Report, refused, gives}
 use Rattle.biomass.specs.Law.Gives.{never, figure-is, test-passed}
 use Rattle.codec.specs.Bytes.{byte, storedAt, AllBytes, numberAt, bytes, signed, unsigned}
@@ -42,6 +42,11 @@ pub encode-bytes : (c : Command) → Fits c → AllBytes (encode c)
 encode-bytes c f = each-all (each-encoded c f)
 
 -- ---- an encoded command is read
+
+-- at the end and past it none is
+pub read-at-end : (s : List ℕ) (at : ℕ) → length s ≤ at → read s at ≡ refused 1
+unfolding read
+read-at-end s at none-left = rw le-ltb
 
 -- the command's byte, and enough bytes for its operands
 pub read-by : (s : List ℕ) (at b : ℕ) → at < length s → byte s at ≡ b → read s at ≡ commandFrom b s (at + 1)

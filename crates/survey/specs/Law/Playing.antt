@@ -9,7 +9,7 @@ use native.Mathlib.Decide.{decLe}
 use native.Mathlib.Omega.{arith}
 use mathlib.Core.Path.{_≡_, _∙_, refl, sym, ap, ap₂, subst}
 use mathlib.Core.Bool.{Bool, true, false, cond, false≢true}
-use mathlib.Core.List.{List, _∷_, _++_}
+use mathlib.Core.List.{List, [], _∷_, _++_}
 use lib.ListN.{length, length-append}
 use lib.Dec.{ltb}
 use borrow.Author.Tests.{lt-ltb, le-ltb, ltb-true, ltb-false}
@@ -23,12 +23,12 @@ use Rattle.survey.specs.Survey.{leaves, fresh, withLine}
 use Rattle.survey.specs.AsWritten.{asWritten, isIn}
 use Rattle.survey.specs.Apply.{onLine, apply, reached}
 use Rattle.survey.specs.Valid.{Valid}
-use Rattle.survey.specs.Playing.{Played, ended, stopped, takenTo, stepBy, step, met, afterEnd, playUpToBy, playUpTo, playFrom, playBy, play, playList}
+use Rattle.survey.specs.Playing.{Played, ended, stopped, takenTo, stepBy, step, met, afterEnd, playUpToBy, playUpTo, playFrom, playBy, play, playListBy}
 use Rattle.survey.specs.LineUpdate.{Update, lineUpdated, otherCommand, updatedTo, updateBy, updateLine}
 use Rattle.rules.specs.Change.{Own, own, notOwn, ownOf}
 use Rattle.codec.specs.Law.Bytes.{Stands, stands-first, stands-second, stands-itself}
-use Rattle.codec.specs.Law.RoundTrip.{read-encoded, read-moves}
-use Rattle.survey.specs.Law.Reach.{read-declines, read-at-end, reach-refused, reach-on, AllFit, none, and-next}
+use Rattle.codec.specs.Law.RoundTrip.{read-at-end, read-encoded, read-moves}
+use Rattle.survey.specs.Law.Reach.{read-declines, reach-refused, reach-on, AllFit, none, and-next}
 use Rattle.survey.specs.Law.Checks.{then-same}
 use Rattle.survey.specs.Law.Change.{ended-refuses, own-applied}
 use Rattle.survey.specs.Law.Valid.{fresh-valid, apply-valid}
@@ -340,8 +340,8 @@ module _ (book : List ℕ) (at : ℕ) (s : Survey) (c : Command) (next : ℕ) (r
 
 -- the commands from a place on to the end of the book
 plays-list : (book : List ℕ) (at : ℕ) (s : Survey) (cs : List Command) → AllFit cs → Stands (encodeAll cs) book at
-    → at + length (encodeAll cs) ≡ length book → playFrom book at s ≡ playList cs at s
-unfolding encodeAll playList
+    → at + length (encodeAll cs) ≡ length book → playFrom book at s ≡ playListBy apply cs at s
+unfolding encodeAll playListBy
 plays-list book at s cs none h ends =
     cond-cases (λ p. playFrom book at s ≡ p) (s .ended) (ended s) (stopped 1 at)
     (λ is-ended. plays-end book at s is-ended (omega arith))
@@ -351,13 +351,23 @@ plays-list book at s cs (and-next {c} {cs = rest} f fs) h ends =
     let after = at + length (encode c) in
     let first : read book at ≡ gives (c, after) = read-encoded book at c f (stands-first (encode c) (encodeAll rest) h) (omega arith) in
     let moves = read-moves book at c after first in
-    plays-command book at s c after first (playList rest after) (omega arith) λ t.
+    plays-command book at s c after first (playListBy apply rest after) (omega arith) λ t.
     plays-list book after t rest fs (stands-second (encode c) (encodeAll rest) h) (omega arith)
 
+-- from a valid survey on, the commands do what the text says
+list-as-written : (cs : List Command) (at : ℕ) (s : Survey) → Valid s → playListBy apply cs at s ≡ playListBy asWritten cs at s
+unfolding playListBy
+list-as-written [] at s v = refl
+list-as-written (c ∷ cs) at s v =
+    met-same at (apply c s) _ _ (λ t e. list-as-written cs (at + length (encode c)) t (apply-valid c s t v e))
+    ∙ ap (λ (r : Report Survey). met at r λ t. playListBy asWritten cs (at + length (encode c)) t) (as-written c s v)
+
 -- a book of commands plays as its commands do, one after the other
-pub play-of-list : (cs : List Command) → AllFit cs → play (encodeAll cs) ≡ playList cs 0 fresh
+pub play-of-list : (cs : List Command) → AllFit cs → playBy asWritten (encodeAll cs) ≡ playListBy asWritten cs 0 fresh
 unfolding play
-play-of-list cs fs = let book = encodeAll cs in plays-list book 0 fresh cs fs (stands-itself book) (omega arith)
+play-of-list cs fs =
+    let book = encodeAll cs in
+    sym (play-as-written book) ∙ plays-list book 0 fresh cs fs (stands-itself book) (omega arith) ∙ list-as-written cs 0 fresh fresh-valid
 
 -- ---- a book that is accepted comes to the survey that the commands which it reads as reach
 

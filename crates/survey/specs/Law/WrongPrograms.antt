@@ -1,7 +1,7 @@
 -- "Offer these in turn and see them rejected." The six wrong programs of document 01's last section, and its low of 0: each is offered the listing and a sheet
 -- of 800 bytes or more, and what it would hand back is not what totalling promises. "Demand 2 shuts out all six. A low of 0 with a vast high falls to both 2
 -- and 3." (Law.Witness has the two of them that are about one command.)
-use Prim.Native.Nat.{ℕ, _+_, _*_, _≤_}
+use Prim.Native.Nat.{ℕ, zero, suc, _+_, _*_, _≤_}
 use native.Mathlib.Omega.{arith}
 use mathlib.Core.Path.{_≡_, _∙_, sym, ap}
 use mathlib.Core.List.{List, [], _∷_, _++_}
@@ -10,33 +10,38 @@ use lib.Dec.{lit≤, lit<}
 use lib.IntN.{pos}
 use borrow.Author.Tests.{le-ltb}
 use Rattle.powers.specs.Diameter.{crownLimit, rootLimit}
+use Rattle.powers.specs.Greatest.{greatest}
+use Rattle.biomass.specs.Report.{Report, refused, gives}
+use Rattle.biomass.specs.Tariff.{singleTariff, lineTariff}
+use Rattle.biomass.specs.Mean.{meanOf, mean}
+use Rattle.biomass.specs.Trees.{trees}
 use Rattle.biomass.specs.Trees as Trees
+use Rattle.biomass.specs.Stem.{stem}
+use Rattle.biomass.specs.Crown.{crown}
+use Rattle.biomass.specs.Root.{root}
+use Rattle.biomass.specs.Tree.{tree, rowBiomass}
+use Rattle.biomass.specs.Law.Gives.{figure-is}
 use Rattle.biomass.specs.Fraction.{whole}
 use Rattle.biomass.specs.Exact.{Given, exactStem, exactCrown, exactRoot}
 use Rattle.biomass.specs.Law.Fraction.{≼-trans}
 use Rattle.biomass.specs.Law.Signed.{pos-le}
 use Rattle.codec.specs.Bytes.{byte, numberAt, storedAt}
-use Rattle.codec.specs.Reading.{speciesFrom, openFrom, commandFrom, read}
+use Rattle.codec.specs.Reading.{speciesFrom, factorFrom, openFrom, measuredFrom, heightFrom, commandFrom, read}
 use Rattle.survey.specs.Reader.{encodeAll}
-use Rattle.survey.specs.Survey.{fresh, declare, opened, openLine, end}
-use Rattle.survey.specs.Apply.{applyClose}
-use Rattle.line.specs.AnyLine.{lineRow}
+use Rattle.survey.specs.Survey.{fresh, declare, giveFactor, opened, openLine, end}
+use Rattle.survey.specs.Apply.{applyMeasured, applyHeight, applyClose}
+use Rattle.line.specs.AnyLine.{addTrees, addHeight, worked, lineRow}
 use Rattle.survey.specs.Playing.{stepBy, playUpToBy, play}
 use Rattle.survey.specs.Sheet.{sheetLength, sheetBytes}
 use Rattle.line.specs.Row.{rowLength, rowBytes}
-use Rattle.survey.specs.Total.{Answer, refusedAt, totalled, total, sheetAfter}
-use Rattle.survey.specs.Demand3.{Fractions, NoneAbove, more, none, treesAdded, exactSum, exactTotal, Demand3, Demanded, linesOf}
-use Rattle.survey.specs.Listing.{species3, line2, listing, listingTotals, row1, row2}
+use Rattle.survey.specs.Total.{Answer, refusedAt, totalled, sumOf, totalOf, total, sheetAfter}
+use Rattle.survey.specs.Demand3.{Fractions, NoneAbove, treesAdded, exactSum, exactTotal, Demand3, linesOf}
+use Rattle.survey.specs.Promise.{Promised}
+use Rattle.survey.specs.Listing.{species3, factor101, heightTree, line2, listing, listingTotals, row1, row2}
 use Rattle.survey.specs.Law.Listing.{listingLines, listing-totalled, listing-sheet, listing-lines}
-use Rattle.survey.specs.Law.Total.{sheet-applied}
+use Rattle.survey.specs.Law.Total.{total-applied, sheet-applied}
 use Rattle.codec.specs.declared.command.Command.{Command}
 use Rattle.survey.specs.declared.total.Totals.{Totals}
-
--- What totalling promises of the answer r and of the sheet afterwards: the three promises of `total` in src/total.rt
-pub record Promised (book sheet : List ℕ) (r : Answer) (after : List ℕ) : Type 0 where
-  pub answered : r ≡ total book sheet
-  pub stored : after ≡ sheetAfter book sheet
-  pub demand3 : Demanded book r
 
 -- ---- a second book, whose first line is the listing's second
 
@@ -49,7 +54,46 @@ unfolding
     storedAt sheetBytes rowBytes
 second-sheet sheet room = sheet-applied secondLine sheet ∙ rw (le-ltb (length sheet) sheetLength room)
 
+-- ---- a third book, of one measured tree: its areas, 2 and 3, are such that step 3 rounds up
+
+unfoldable pub oneTree : List ℕ
+oneTree = encodeAll (species3 ∷ factor101 ∷ Command.Open 1 3 2 3 ∷ Command.Measured 60 1 ∷ heightTree ∷ Command.Close ∷ Command.End ∷ [])
+
+-- the trees that come back
+abbrev pub treesBack : Answer → Report ℕ
+treesBack (refusedAt n at) = refused n
+treesBack (totalled t) = gives (t .trees)
+
+one-tree-back : (sheet : List ℕ) → sheetLength ≤ length sheet → treesBack (total oneTree sheet) ≡ gives 67
+unfolding
+    oneTree encodeAll speciesFrom factorFrom openFrom measuredFrom heightFrom commandFrom read
+    fresh declare giveFactor opened openLine applyMeasured addTrees applyHeight addHeight applyClose end
+    lineRow greatest meanOf mean trees singleTariff lineTariff worked rowBiomass tree stem crown root
+    stepBy playUpToBy play totalOf sumOf
+one-tree-back sheet room = ap treesBack (total-applied oneTree sheet) ∙ rw (le-ltb (length sheet) sheetLength room)
+
+one-tree-row : (sheet : List ℕ) → sheetLength ≤ length sheet → numberAt 4 (sheetAfter oneTree sheet) 5 ≡ 67
+unfolding
+    oneTree encodeAll speciesFrom factorFrom openFrom measuredFrom heightFrom commandFrom read
+    fresh declare giveFactor opened openLine applyMeasured addTrees applyHeight addHeight applyClose end
+    lineRow greatest meanOf mean trees singleTariff lineTariff worked rowBiomass tree stem crown root
+    stepBy playUpToBy play storedAt sheetBytes rowBytes
+one-tree-row sheet room = ap (λ (l : List ℕ). numberAt 4 l 5) (sheet-applied oneTree sheet) ∙ rw (le-ltb (length sheet) sheetLength room)
+
 -- ---- "Demand 2 shuts out all six."
+
+-- "a tree number not from step 3"
+module _ {sheet after : List ℕ} {r : Answer} (room : sheetLength ≤ length sheet) (promised : Promised oneTree sheet r after) where
+  -- the trees are step 3's of n 1, p 2 and q 3, in the totals and in the row
+  pub trees-from-step-3 : treesBack r ≡ gives (Trees.treesOf 1 2 3)
+  trees-from-step-3 = ap treesBack (promised .answered) ∙ one-tree-back sheet room
+
+  pub row-from-step-3 : numberAt 4 after 5 ≡ Trees.treesOf 1 2 3
+  row-from-step-3 = ap (λ (l : List ℕ). numberAt 4 l 5) (promised .stored) ∙ one-tree-row sheet room
+
+  -- not rounded down; not the measured trees in hundredths, p and q left out; not in whole trees
+  pub no-other-trees : (t : Totals) → r ≡ totalled t → (t .trees ≡ 66 → ⊥) × (t .trees ≡ 100 → ⊥) × (t .trees ≡ 1 → ⊥)
+  no-other-trees t e = let are : t .trees ≡ 67 = figure-is (sym (ap treesBack e) ∙ trees-from-step-3) in omega arith
 
 module _ {sheet after : List ℕ} {r : Answer} (room : sheetLength ≤ length sheet) (promised : Promised listing sheet r after) where
   -- the promised answer and the promised sheet
@@ -103,18 +147,6 @@ module _ {sheet after : List ℕ} {r : Answer} (room : sheetLength ≤ length sh
       let strata : _≡_ {A = ℕ} 1 2 = ap (λ (l : List ℕ). byte l 0) (sym first-row ∙ e ∙ sym e′ ∙ second) in
       omega arith
 
-  -- "a tree number not from step 3": the trees are step 3's of n 4, p 6 and q 1, in the totals and in the row
-  pub trees-from-step-3 : (t : Totals) → r ≡ totalled t → t .trees ≡ Trees.treesOf 4 6 1
-  trees-from-step-3 t e = ap (λ (t : Totals). t .trees) (totals-are t e)
-
-  pub row-from-step-3 : numberAt 4 after 5 ≡ Trees.treesOf 4 6 1
-  unfolding rowBytes
-  row-from-step-3 = ap (λ (l : List ℕ). numberAt 4 l 5) sheet-is
-
-  -- not the measured trees in hundredths, p and q left out; not in whole trees; nor both
-  pub no-other-trees : (t : Totals) → r ≡ totalled t → (t .trees ≡ 400 → ⊥) × (t .trees ≡ 24 → ⊥) × (t .trees ≡ 4 → ⊥)
-  no-other-trees t e = omega (arith, trees-from-step-3 t e)
-
   -- "'32 lines' or 'over the limit' told of a survey below it"
   pub limit-not-told : (at : ℕ) → r ≡ refusedAt 11 at → ⊥
   limit-not-told at e = not-declined 11 at e
@@ -142,6 +174,6 @@ zero-low-not-demand-3 high demand =
     any = record { crown = λ i. one; root = λ i. one }
 
     no-powers : NoneAbove any listingLines
-    no-powers =
-        more 0 _ _ (λ _. record { on-crown = λ (h : 600 ≤ crownLimit). absurd (omega arith); on-root = λ (h : 600 ≤ rootLimit). absurd (omega arith) })
-        (more 1 _ _ (λ (some : 1 ≤ 0). absurd (omega arith)) (none 2))
+    no-powers zero some = record { on-crown = λ (h : 600 ≤ crownLimit). absurd (omega arith); on-root = λ (h : 600 ≤ rootLimit). absurd (omega arith) }
+    no-powers (suc zero) some = absurd (omega arith)
+    no-powers (suc (suc i)) some = absurd (omega arith)

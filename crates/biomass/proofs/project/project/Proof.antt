@@ -1,5 +1,6 @@
 -- `biomass::project::project` meets its contract: each test of the code is the definition's, and past them eleven times a sum is within 64 bits.
 use Prim.Native.Nat.{ℕ, _+_, _^_, _≤_, _<_}
+use lib.Dec.{T, leb, lit≤}
 use borrow.Author.Tests.{eq-eqb, ne-eqb}
 use native.Mathlib.Omega.{arith}
 use mathlib.Core.Path.{_≡_, ap}
@@ -13,12 +14,12 @@ use Rattle.biomass.specs.Law.Report.{Inside, refuses, goes-on, ranges}
 use Rattle.biomass.proofs.project.project.Statement.{statement}
 use Rattle.biomass.proofs.project.project.Tie as tie
 
--- past its test a sum is what `dioxide` takes, and one more gram than it makes of the sum fits
+-- past its test a sum is what `dioxide` takes, and a gram more than it makes of the sum fits
 few : {x : ℕ} → Inside 0 x greatestSum → x ≤ greatestSum
 few i = i .most
 
-more-fits : {g : Grams} (m : Milligrams) → g ≡ dioxide m → Inside 0 (m .0) greatestSum → g .0 + 1 < 2 ^ 64
-more-fits m is i = omega (arith, ap (λ (g : Grams). g .0) is)
+more-fits : {g : Grams} (m : Milligrams) (n : ℕ) → T (leb n 1) → g ≡ dioxide m → Inside 0 (m .0) greatestSum → g .0 + n < 2 ^ 64
+more-fits m n at-most is i = let few : n ≤ 1 = lit≤ at-most in omega (arith, ap (λ (g : Grams). g .0) is)
 
 -- the two figures, of no trees and of some
 module _ (sums : BiomassRange) {N : ℕ} {low : Grams} (low-is : low ≡ dioxide (sums .low)) where

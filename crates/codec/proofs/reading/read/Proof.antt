@@ -1,21 +1,22 @@
 -- `codec::reading::read` meets its contract: past the end test, each arm of the match reads what the definition reads for the arm's byte. The
 -- slice's type tells that it holds bytes, so that what is read is written back as it was.
-use Prim.Native.Nat.{ℕ, _+_, _≤_, _<_}
+use Prim.Native.Nat.{ℕ, _+_, _<_}
 use native.Mathlib.Omega.{arith}
-use mathlib.Core.Path.{_≡_, _∙_, sym}
+use mathlib.Core.Path.{_≡_}
 use mathlib.Core.List.{List}
 use lib.ListN.{length}
-use borrow.Author.Tests.{lt-ltb, le-ltb, ne-eqb}
+use borrow.Author.Tests.{lt-ltb, ne-eqb}
 use mir.Syntax.{w8}
 use mir.Val.{Fits}
-use Rattle.biomass.specs.Report.{Report, refused}
-use Rattle.biomass.specs.Law.Report.{stop-unless, past-unless, if-not}
+use Rattle.biomass.specs.Report.{Report}
+use Rattle.biomass.specs.Law.Report.{past-unless, if-not}
 use Rattle.codec.specs.Bytes.{byte}
 use Rattle.codec.specs.Reading.{commandFrom}
 use Rattle.codec.specs.Reading as Reading
 use Rattle.codec.specs.RoundTrip.{WritesBack}
-use Rattle.codec.specs.Law.RoundTrip.{read-by, writes-back}
+use Rattle.codec.specs.Law.RoundTrip.{writes-back}
 use Rattle.codec.specs.declared.command.Command.{Command}
+use Rattle.codec.proofs.Place.{at-end, chosen}
 use Rattle.codec.proofs.reading.read.Statement.{statement}
 use Rattle.codec.proofs.reading.read.Tie as tie
 
@@ -24,18 +25,10 @@ module _ (s : List ℕ) (at : ℕ) where
   again : {r : Report (Command × ℕ)} → ((i : ℕ) → Fits w8 (byte s i)) → r ≡ Reading.read s at → (r ≡ Reading.read s at) × WritesBack s at r
   again all answer = (answer, writes-back s at _ (λ i. all i .fits) answer)
 
-  -- at the end nothing is read
-  at-end : length s ≤ at → refused 1 ≡ Reading.read s at
-  unfolding Reading.read
-  at-end h = stop-unless _ (le-ltb at (length s) h)
-
-  -- past the end test, what is read for the byte at the place; and where it is b
+  -- past the end test, what is read for the byte at the place
   inside : {r : Report (Command × ℕ)} → at < length s → r ≡ commandFrom (byte s at) s (at + 1) → r ≡ Reading.read s at
   unfolding Reading.read
   inside h = past-unless _ 1 (lt-ltb at (length s) h)
-
-  chosen : {b : ℕ} {r : Report (Command × ℕ)} → at < length s → byte s at ≡ b → r ≡ commandFrom b s (at + 1) → r ≡ Reading.read s at
-  chosen h e is = is ∙ sym (read-by s at _ h e)
 
 returns : tie.Need-returns
 returns c = again _ _ (search) (search at-end)

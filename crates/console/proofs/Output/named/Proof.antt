@@ -10,4 +10,4 @@ named-spec =
     (tie.spec
     (λ c κs. search needs)
     (λ c κs. search needs)
-    (λ c. search stays))
+    (λ c. stays (c .before .text .ensures) (c .number .ensures)))

@@ -14,4 +14,4 @@ refusal-spec =
     (λ c κs. search needs)
     (λ c. search needs)
     (λ c κs. search needs)
-    (λ c. search stays))
+    (λ c. stays (stays (c .before .before .before .before .named .ensures) (c .before .before .named2 .ensures)) (c .text .ensures)))

@@ -15,9 +15,10 @@ use Rattle.survey.specs.Total.{Answer, refusedAt, totalled, totalOf, ans
 use Rattle.survey.specs.Law.Playing.{play-valid}
 use Rattle.survey.specs.Law.Sums.{RowsSmall}
 use Rattle.survey.specs.Law.Sheet.{sheet-as-long}
-use Rattle.survey.specs.Law.Total.{total-applied, sheet-applied}
+use Rattle.survey.specs.Law.Total.{total-applied, sheet-applied, refused-keeps}
 use Rattle.survey.specs.Law.Demand3.{rows-small, demanded}
 use Rattle.survey.specs.Demand3.{Demanded}
+use Rattle.survey.specs.Promise.{Promised}
 use Rattle.codec.specs.declared.refusal.Refusal.{Refusal}
 use Rattle.survey.specs.declared.survey.Outcome.{Outcome}
 use Rattle.survey.specs.declared.playing.Played as Code
@@ -25,15 +26,18 @@ use Rattle.survey.proofs.total.total.Statement.{statement}
 use Rattle.survey.proofs.total.total.Tie as tie
 
 module _ (book sheet : List ℕ) where
-  -- what is promised of the answer r and of x, the sheet then
-  abbrev Promised : Answer → List ℕ → Type 0
-  Promised r x = (r ≡ total book sheet) × ((x ≡ sheetAfter book sheet) × Demanded book r)
+  -- what is ensured of the answer r and of x, the sheet then: the promise; and where the book is refused, that the sheet is as it was
+  abbrev Ensured : Answer → List ℕ → Type 0
+  Ensured r x = Promised book sheet r x × ((n at : ℕ) → r ≡ refusedAt n at → x ≡ sheet)
 
-  -- demand 3 holds of it, whatever it is; and with no room in the sheet
-  promised : {r : Answer} {x : List ℕ} → r ≡ total book sheet → x ≡ sheetAfter book sheet → Promised r x
-  promised answer laid = (answer, (laid, subst (Demanded book) (sym answer) (demanded book sheet)))
+  -- demand 3 holds of the answer, whatever it is; and with no room in the sheet
+  promised : {r : Answer} {x : List ℕ} → r ≡ total book sheet → x ≡ sheetAfter book sheet → Ensured r x
+  promised answer laid = (
+    record { answered = answer; stored = laid; demand3 = subst (Demanded book) (sym answer) (demanded book sheet) },
+    λ n at refuses. laid ∙ refused-keeps book sheet n at (sym answer ∙ refuses),
+  )
 
-  no-room : length sheet < sheetLength → Promised (refusedAt 16 0) sheet
+  no-room : length sheet < sheetLength → Ensured (refusedAt 16 0) sheet
   unfolding total sheetAfter
   no-room h = promised (rw lt-ltb) (rw lt-ltb)
 
