@@ -1,5 +1,4 @@
-# How the outside tests are built, for scripts that source this from the repository's root. All of it goes under
-# target/.
+# How the outside tests are built, for scripts that source this after checks.sh. All of it goes under target/.
 work=target/tests
 library=target/staticlib/libfieldbook.a
 mkdir -p "$work"
@@ -29,7 +28,7 @@ stale() { # BUILT CRATE...
 }
 
 build_library() {
-    ! stale "$library" "${lower[@]}" crates/fieldbook || need "the proved library" rt staticlib fieldbook
+    ! stale "$library" "${lower[@]}" crates/fieldbook || need "the proved library" within "$proof_limit" rt staticlib fieldbook
 }
 
 build_programs() { # PROGRAM...
@@ -37,11 +36,12 @@ build_programs() { # PROGRAM...
     for program; do
         if stale "target/bin/$program" "${lower[@]}" "crates/$program"; then old+=("$program"); fi
     done
-    [ "${#old[@]}" -eq 0 ] || need "the proved programs" rt check "${old[@]}"
+    [ "${#old[@]}" -eq 0 ] || need "the proved programs" within "$proof_limit" rt check "${old[@]}"
 }
 
 cargo_in_work() { # COMMAND FOLDER ARGUMENT...
-    env CARGO_TARGET_DIR="$PWD/$work" cargo "$1" --offline --locked --manifest-path "$2/Cargo.toml" "${@:3}"
+    within "$compiler_limit" env CARGO_TARGET_DIR="$PWD/$work" \
+        cargo "$1" --offline --locked --manifest-path "$2/Cargo.toml" "${@:3}"
 }
 
 # The program `outside`, which then stands in the profile's folder.

@@ -3,6 +3,7 @@
 
 The pipe does not wait where it is full: a write fails, and a shorter one after it could still fit. So a program that goes on
 after a failed write leaves holes in its text. Each room up to a few lines is tried. The status is 0 where all went well.
+Whoever starts this script ends it where the program hangs.
 """
 import fcntl
 import os
@@ -15,7 +16,7 @@ ROOMS = range(0, 200)
 
 def printed(program, book, output):
     with open(book, 'rb') as input:
-        return subprocess.run([program], stdin=input, stdout=output, timeout=20)
+        return subprocess.run([program], stdin=input, stdout=output)
 
 
 def beginning(program, book, room):

@@ -1,11 +1,12 @@
 #!/usr/bin/env python3
 """The library's tables against separate high-precision software: Python's own whole numbers and decimals.
 
-Reads the constant tables from the library's source text, and from standard input the crowns and roots that
-the proved library returns (outside figures). One line to a check; the last line counts them.
+Reads the constant tables from the library's source text, and the crowns and roots that the proved library returns,
+which the program of the tests prints: power_table.py OUTSIDE. One line to a check; the last line counts them.
 """
 import pathlib
 import re
+import subprocess
 import sys
 from decimal import Decimal, ROUND_FLOOR, localcontext
 from math import isqrt
@@ -85,8 +86,9 @@ def ends(kind, group, d):
 
 
 wanted = {(kind, group, d) for kind, groups in (('crown', 8), ('root', 6)) for group in range(groups) for d in range(70, 1001)}
+figures = subprocess.run([sys.argv[1], 'figures'], stdout=subprocess.PIPE, text=True, check=True).stdout
 returned = {}
-for line in sys.stdin:
+for line in figures.splitlines():
     kind, *numbers = line.split()
     group, d, low, high = map(int, numbers)
     returned[kind, group, d] = low, high

@@ -24,7 +24,7 @@ extern "C" {
 #define FIELDBOOK_VERSION_MAJOR 1
 #define FIELDBOOK_VERSION_MINOR 0
 #define FIELDBOOK_VERSION_PATCH 0
-#define FIELDBOOK_VERSION "1.0.0"
+#define FIELDBOOK_VERSION "1.0.1"
 
 /* The numbers of the refusals. */
 enum {

@@ -1,6 +1,7 @@
 /*
  * Totals the book in a file, and prints its rows and the project as the program `sheet` does. The exit status is 0
- * where it is totalled, 1 where it is refused, and 2 where the file cannot be read. From the repository's root:
+ * where it is totalled, 1 where it is refused, and 2 where the file cannot be read or the text not be written. From
+ * the repository's root:
  *
  *     rt staticlib fieldbook
  *     gcc -std=c99 -I bindings/c bindings/c/total.c target/staticlib/libfieldbook.a -o target/total
@@ -88,5 +89,10 @@ int main(int count, char **arguments) {
     }
     int status = print_book(&book);
     free(book.bytes);
+    /* What was printed may still wait in a buffer. */
+    if (fclose(stdout) != 0) {
+        fprintf(stderr, "standard output: %s\n", strerror(errno));
+        return 2;
+    }
     return status;
 }

@@ -9,6 +9,13 @@ use std::ops::{Range, RangeInclusive};
 /// How many bytes a book has at most.
 pub const LONGEST: usize = 65_536;
 
+/// How many lines a book has at most.
+const LINES: usize = 32;
+
+/// The refusals of opening a line of the same stratum and species again, and one more than 32.
+const ALREADY_OPENED: u8 = 7;
+const LINES_OPENED: u8 = 11;
+
 /// The book of document 01's listing.
 pub fn listing() -> Vec<u8> {
     let commands = [
@@ -32,7 +39,7 @@ pub fn accepted(seed: u64) -> Vec<u8> {
     let species = author.one_of(&[1, 2, 3, 16]);
     let least = author.random.between(CM.0, CM.1);
     let most = CM.1.min(least + author.random.between(0, 12));
-    Writer::new(author, species, least..=most).book(lines, 5)
+    Writer::new(author, species, least..=most).book(0..lines, 5)
 }
 
 /// An accepted book with bytes or commands changed, taken out, put in or exchanged.
@@ -73,14 +80,14 @@ pub fn edges(seeds: Range<u64>) -> Vec<Vec<u8>> {
         let n = random.between(1, 65_535);
         let k = random.between(1, 99);
         for over in [0, 1] {
-            books.push(any_writer(seed).book(32 + over as usize, random.between(0, 2)));
+            books.push(any_writer(seed).book(0..LINES + over as usize, random.between(0, 2)));
             books.push(one_line(seed, [1, 1], 1, 1_000_000 + over));
             // An estimate of 1,000,000 trees, or of 1/k of a tree more.
             books.push(one_line(seed, [1_000_000 * k + over, n * k], 2, n));
             books.push(one_line(seed, [1, 1], over as usize, n));
         }
         // No measured tree in any line; a height tree alone; too few trees for an estimate, and just enough.
-        books.push(any_writer(seed).book(random.between(1, 32) as usize, 0));
+        books.push(any_writer(seed).book(0..random.between(1, LINES as u64) as usize, 0));
         books.push(one_line(seed, [1, 1], 1, 0));
         books.extend([n, 499_999, 500_000].map(|trees| one_line(seed, [1, 100_000_000], 1, trees)));
         // The least tariff and the greatest, and one beyond each.
@@ -90,16 +97,32 @@ pub fn edges(seeds: Range<u64>) -> Vec<Vec<u8>> {
     for seed in seeds.step_by(4) {
         books.extend([1_000, 1_001].map(|height_trees| one_line(seed, [1, 1], height_trees, 7)));
         // Every species and every factor.
-        books.push(Writer::new(Author::new(seed), 16, CM.0..=CM.1).book(20, 5));
+        books.push(Writer::new(Author::new(seed), 16, CM.0..=CM.1).book(0..20, 5));
     }
     books
 }
 
-/// Some 1,000 books: accepted, damaged, by chance, and at the limits.
+/// Books that open a line again, each with the number that it is refused with: after 1 to 31 lines the last of them, and
+/// after 32 each of them, or a new one.
+pub fn opened_again() -> Vec<(u8, Vec<u8>)> {
+    let mut books = Vec::new();
+    for species in streams::SPECIES_OF_LINES {
+        let last = (1..LINES).map(|lines| (lines, lines - 1));
+        let each = (0..=LINES).map(|i| (LINES, i));
+        for (lines, again) in last.chain(each) {
+            let writer = Writer::new(Author::new(800 + books.len() as u64), species, 30..=30);
+            let number = if again < lines { ALREADY_OPENED } else { LINES_OPENED };
+            books.push((number, writer.book((0..lines).chain([again]), 1)));
+        }
+    }
+    books
+}
+
+/// Some 1,300 books: accepted, damaged, by chance, at the limits, and with a line that is opened again.
 pub fn of_every_kind() -> Vec<Vec<u8>> {
     let seeds = 5_000_000..5_000_300;
     let books = seeds.flat_map(|seed| [accepted, damaged, by_chance].map(|book| book(seed)));
-    books.chain(edges(0..8)).collect()
+    books.chain(edges(0..8)).chain(opened_again().into_iter().map(|(_, book)| book)).collect()
 }
 
 /// Books of about the most bytes that a book may have, and over: accepted, refused at the last byte or at the first.
@@ -151,7 +174,7 @@ pub fn of_length(length: usize) -> Vec<u8> {
 
 /// An accepted book of so many lines, with trees in most of them.
 pub fn of_lines(lines: usize) -> Vec<u8> {
-    any_writer(lines as u64).book(lines, 5)
+    any_writer(lines as u64).book(0..lines, 5)
 }
 
 /// An accepted book of one line with so many height trees.
@@ -277,9 +300,9 @@ impl Writer {
         Writer { author, species, classes, pending, stratum, constants: [0; 4] }
     }
 
-    /// So many lines, and the end.
-    fn book(mut self, lines: usize, most_measured: u64) -> Vec<u8> {
-        for i in 0..lines {
+    /// The lines of these numbers, and the end.
+    fn book(mut self, lines: impl Iterator<Item = usize>, most_measured: u64) -> Vec<u8> {
+        for i in lines {
             self.line(i, most_measured);
         }
         if self.author.one_in(2) {

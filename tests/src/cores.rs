@@ -1,4 +1,5 @@
 //! Work on every core.
+use std::panic::resume_unwind;
 use std::sync::atomic::{AtomicUsize, Ordering};
 use std::thread;
 
@@ -17,11 +18,11 @@ pub fn each<'a, T: Sync, R: Send>(all: &'a [T], work: impl Fn(&'a T) -> R + Sync
     made.into_iter().map(|(_, one)| one).collect()
 }
 
-/// What each core makes of its share of the work.
+/// What each core makes of its share of the work. A panic of one is a panic here, with the same words.
 pub fn all_at_once<R: Send>(share: impl Fn() -> R + Sync) -> Vec<R> {
     thread::scope(|scope| {
         let workers = thread::available_parallelism().map_or(1, usize::from);
         let workers: Vec<_> = (0..workers).map(|_| scope.spawn(&share)).collect();
-        workers.into_iter().map(|worker| worker.join().expect("a share of the work")).collect()
+        workers.into_iter().map(|worker| worker.join().unwrap_or_else(|panic| resume_unwind(panic))).collect()
     })
 }

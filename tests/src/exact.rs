@@ -75,7 +75,7 @@ impl Exact {
     pub fn holds(&self, tally: &mut Tally, operands: impl Debug, low: u64, high: u64) {
         let mut holds = |condition, what| tally.holds(condition, (&operands, self.trees, low, high, what));
         holds((low == high) == (self.trees == 0), "equal exactly without trees");
-        holds(high <= low + 3 + self.trees / 1000, "the gap's limit");
+        holds(high.saturating_sub(low) <= 3 + self.trees / 1000, "the gap's limit");
         // The exact value is 11/6000 of the sum, and N counts hundredths.
         let eleven = Natural::of(11);
         let whole = Natural::of(600_000).times(&Natural::of(PARTS as u128));

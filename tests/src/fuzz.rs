@@ -1,6 +1,6 @@
-//! The library against `plain` over books by chance, as many as there is time for: the answer and every byte of the
-//! sheet. A book hangs on the seed of the run and on its number alone, whatever the time and however many cores there
-//! are.
+//! The library against `plain` over books by chance, so many or as many as there is time for: the answer and every byte
+//! of the sheet. A book hangs on the seed of the run and on its number alone, whatever the time and however many cores
+//! there are.
 use crate::author::Author;
 use crate::changes::{Changer, Pool};
 use crate::library::{as_numbers, same_reading, total};
@@ -11,12 +11,12 @@ use crate::total::{LEAST_SHEET, ROW};
 use crate::{cores, plain, streams, totals};
 use std::fmt::{Debug, Display, Formatter};
 use std::panic::{catch_unwind, AssertUnwindSafe};
-use std::sync::atomic::{AtomicBool, AtomicU64, Ordering};
+use std::sync::atomic::{AtomicU64, Ordering};
 use std::time::{Duration, Instant};
 
-/// What the check takes that every run of the tests makes.
+/// What the check takes that every run of the tests makes: the same books, some ten seconds of them on two cores.
 const SEED: u64 = 1;
-const SECONDS: u64 = 10;
+const BOOKS: u64 = 7_000_000;
 
 /// In so many seconds every answer is to be met.
 const LONG_ENOUGH: u64 = 10;
@@ -32,8 +32,9 @@ const ROOM: usize = MARGIN + LONGEST_SHEET + 2 * MARGIN;
 
 pub fn run(report: &mut Report) {
     report.check("fuzz, the library and a plain implementation over books by chance", |tally| {
-        let (compared, met) = fuzz(SEED, SECONDS);
+        let (compared, met) = fuzz(SEED, BOOKS, Duration::MAX);
         tally.add(compared);
+        tally.same("books", met.books(), BOOKS);
         tally.same("answers that were never met", met.missing(), vec![]);
         tally.remark = format!("; {met}");
     });
@@ -41,7 +42,7 @@ pub fn run(report: &mut Report) {
 
 /// Runs for so many seconds, and says on the last line what was met. True where nothing is wrong.
 pub fn alone(seed: u64, seconds: u64) -> bool {
-    let (mut tally, met) = fuzz(seed, seconds);
+    let (mut tally, met) = fuzz(seed, u64::MAX, Duration::from_secs(seconds));
     if seconds >= LONG_ENOUGH {
         tally.same("answers that were never met", met.missing(), vec![]);
     }
@@ -49,23 +50,29 @@ pub fn alone(seed: u64, seconds: u64) -> bool {
     tally.is_good()
 }
 
-/// Every core takes the next numbers until the time is over or a book differs.
-fn fuzz(seed: u64, seconds: u64) -> (Tally, Met) {
+/// Every core takes the next numbers until all these books are done, the time is over or a book differs. All books with
+/// lesser numbers than the one that differs are done too, so the first of such is always found.
+fn fuzz(seed: u64, books: u64, time: Duration) -> (Tally, Met) {
     let pool = Pool::new(seed);
     let noise = streams::noise(&mut Random::new(!seed), 4, 4 * ROOM);
     let next = AtomicU64::new(0);
-    let over = AtomicBool::new(false);
-    let end = Instant::now() + Duration::from_secs(seconds);
+    let end = AtomicU64::new(books);
+    let start = Instant::now();
     let shares = cores::all_at_once(|| {
         let mut worker = Worker::new(seed, &pool, &noise);
-        while !over.load(Ordering::Relaxed) {
+        loop {
             let from = next.fetch_add(BATCH, Ordering::Relaxed);
-            let good = (from..from + BATCH).all(|k| worker.book(k));
-            if !good || Instant::now() >= end {
-                over.store(true, Ordering::Relaxed);
+            let mut batch = from..end.load(Ordering::Relaxed).min(from + BATCH);
+            if batch.is_empty() {
+                return (worker.tally, worker.met);
+            }
+            if let Some(k) = batch.find(|&k| !worker.book(k)) {
+                end.fetch_min(k, Ordering::Relaxed);
+            }
+            if start.elapsed() >= time {
+                end.store(0, Ordering::Relaxed);
             }
         }
-        (worker.tally, worker.met)
     });
     let mut all = (Tally::default(), Met::default());
     for (tally, met) in shares {
@@ -84,6 +91,10 @@ impl Met {
         self.0.iter_mut().zip(other.0).for_each(|(times, more)| *times += more);
     }
 
+    fn books(&self) -> u64 {
+        self.0.iter().sum()
+    }
+
     fn missing(&self) -> Vec<u64> {
         [0].into_iter().chain(totals::NAMED).filter(|&number| self.0[number as usize] == 0).collect()
     }
@@ -91,7 +102,7 @@ impl Met {
 
 impl Display for Met {
     fn fmt(&self, f: &mut Formatter) -> std::fmt::Result {
-        write!(f, "{} books, {} accepted, refused", self.0.iter().sum::<u64>(), self.0[0])?;
+        write!(f, "{} books, {} accepted, refused", self.books(), self.0[0])?;
         let mut numbers = totals::NAMED.iter();
         numbers.try_for_each(|&number| write!(f, " {number}: {}", self.0[number as usize]))
     }

@@ -1,6 +1,6 @@
 //! Document 01's totalling as one would write it in Rust to be fast: one pass over the book, arrays, 64-bit numbers.
-//! The fuzz run holds the proved library against it, and the benchmark measures both. Its tables are those of the
-//! protocol's text and of `powers`; nothing is the library's.
+//! `totals` and the fuzz run hold the proved library against it, and the benchmark measures both. Its tables are those of
+//! the protocol's text and of `powers`; nothing is the library's.
 use crate::{powers, protocol};
 use std::sync::LazyLock;
 

@@ -46,6 +46,7 @@ pub fn run(report: &mut Report) {
     let noise = [2, 3, 10, 1000].map(|one_in| streams::noise(&mut random, one_in, streams::LONGEST));
     check("replay, bytes by chance", noise.to_vec());
     check("replay, every byte with 0 to 21 bytes after it", streams::cut_short(&mut random));
+    check("replay, after each of 32 lines every line opened again", vec![streams::opened_again()]);
     answers(report, &met);
 }
 

@@ -1,4 +1,5 @@
 //! Named checks: one line each, and a last line that counts them.
+use std::any::Any;
 use std::fmt::Debug;
 use std::panic::{catch_unwind, AssertUnwindSafe};
 
@@ -56,16 +57,16 @@ pub struct Report {
 impl Report {
     pub fn check(&mut self, name: &str, body: impl FnOnce(&mut Tally)) {
         let mut tally = Tally::default();
-        // A trap of the independent implementation is a failed check and not the end of the run.
-        let ended = catch_unwind(AssertUnwindSafe(|| body(&mut tally))).is_ok();
+        // A trap of the independent implementation, or a program that hangs, is a failed check and not the end of the run.
+        let ended = catch_unwind(AssertUnwindSafe(|| body(&mut tally)));
         let Tally { comparisons, differences, remark } = tally;
         // A check that compares nothing has checked nothing.
-        if ended && differences == 0 && comparisons > 0 {
+        if ended.is_ok() && differences == 0 && comparisons > 0 {
             self.passed += 1;
             println!("ok      {name}: {comparisons} comparisons{remark}");
         } else {
             self.failed += 1;
-            let how = if ended { "" } else { ", and it broke off" };
+            let how = ended.map_or_else(|panic| format!(", and it broke off: {}", words(&*panic)), |()| String::new());
             println!("FAILED  {name}: {differences} of {comparisons} comparisons differ{how}");
         }
     }
@@ -75,4 +76,10 @@ impl Report {
         println!("{} passed, {} failed", self.passed, self.failed);
         self.failed == 0
     }
+}
+
+/// What a panic says.
+fn words(panic: &dyn Any) -> &str {
+    let words = panic.downcast_ref::<&str>().copied();
+    words.or(panic.downcast_ref::<String>().map(String::as_str)).unwrap_or("without a word")
 }

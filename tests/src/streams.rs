@@ -6,6 +6,9 @@ use crate::random::Random;
 
 pub const LONGEST: usize = 65_536;
 
+/// How many species the surveys have whose lines are opened again: from one, in 32 strata, to all 16, in two.
+pub const SPECIES_OF_LINES: [usize; 4] = [1, 2, 5, 16];
+
 /// Books one after the other.
 pub fn books(seed: u64) -> Vec<u8> {
     let mut author = Author::new(seed);
@@ -46,6 +49,15 @@ pub fn noise(random: &mut Random, one_in: u64, length: usize) -> Vec<u8> {
         _ => random.any() as u8,
     };
     (0..length).map(byte).collect()
+}
+
+/// Surveys of 32 lines, in which every line so far is opened again after each.
+pub fn opened_again() -> Vec<u8> {
+    let mut author = Author::new(0);
+    for species in SPECIES_OF_LINES {
+        author.every_line_again(species as u64);
+    }
+    author.stream
 }
 
 /// Every byte with 0 to 21 bytes after it: each command whole and cut short at every length.
@@ -172,17 +184,40 @@ impl Author {
         let id = self.oak();
         self.put(FACTOR, &[60, 101]);
         for stratum in 0..self.random.between(33, 37) {
-            self.put(OPEN, &[stratum, id, 1, 1]);
-            if self.one_in(10) {
-                self.put(MEASURED, &[60, 4]);
-                self.put(HEIGHT, &[60, 120]);
-            }
-            self.put(CLOSE, &[]);
+            self.line_of_oaks(&[stratum, id, 1, 1]);
         }
         // A line that was there, one of no species, and a new one.
         self.put(OPEN, &[0, id, 1, 1]);
         self.put(OPEN, &[0, 16, 1, 1]);
         self.put(OPEN, &[255, id, 1, 1]);
+    }
+
+    /// A line without trees, or with four.
+    fn line_of_oaks(&mut self, opening: &[u64]) {
+        self.put(OPEN, opening);
+        if self.one_in(10) {
+            self.put(MEASURED, &[60, 4]);
+            self.put(HEIGHT, &[60, 120]);
+        }
+        self.put(CLOSE, &[]);
+    }
+
+    /// Lines of so many species, which take turns, in one stratum after the other. After each line every line so far is
+    /// opened again. The last one, a 33rd, is refused the first time too.
+    fn every_line_again(&mut self, species: u64) {
+        for id in 0..species {
+            let operands = self.species_operands(id, protocol::tariff()[0].map(four_bytes));
+            self.put(SPECIES, &operands);
+        }
+        self.put(FACTOR, &[60, 101]);
+        let opening = |i| [i / species, i % species, 1, 1];
+        for last in 0..=32 {
+            self.line_of_oaks(&opening(last));
+            for i in 0..=last {
+                self.put(OPEN, &opening(i));
+            }
+        }
+        self.end();
     }
 
     /// Trees up to 1,000,000 and over it: 15 times 65,535 leave 16,975.

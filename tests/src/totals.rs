@@ -1,4 +1,4 @@
-//! Totalling by the proved library, as it is called from other languages, against the totalling of these tests: every
+//! Totalling by the proved library, as it is called from other languages, against both totallings of these tests: every
 //! answer and every byte of the sheets.
 use crate::author::Author;
 use crate::exact::Exact;
@@ -6,7 +6,7 @@ use crate::library::{self, Totalled, MARGIN};
 use crate::program::{first_difference, Hex};
 use crate::report::{Report, Tally};
 use crate::total::{total, Refused, Totals, LEAST_SHEET};
-use crate::{books, cores};
+use crate::{books, cores, plain};
 use std::collections::BTreeMap;
 
 /// How many bytes a sheet has at most.
@@ -50,18 +50,23 @@ impl Case {
         self.with_sheet(library::total)
     }
 
+    /// The same by the implementation of the fuzz run.
+    fn plain(&self) -> Answer {
+        self.with_sheet(|book, sheet| library::as_numbers(plain::total(book, sheet)))
+    }
+
     /// What the library is to answer, and what comes of the book.
     fn total(&self) -> (Answer, Result<Totals, Refused>) {
         let (totalled, bytes) = self.with_sheet(total);
         ((numbers(&totalled), bytes), totalled)
     }
 
-    fn compare(&self, tally: &mut Tally, (answer, bytes): &Answer, (expected, wanted): &Answer) {
+    fn compare(&self, tally: &mut Tally, (answer, bytes): &Answer, by: &str, (expected, wanted): &Answer) {
         let book = Hex(&self.book);
-        tally.same((&book, self.length), answer, expected);
+        tally.same((&book, self.length, by), answer, expected);
         // The bytes beside the sheets too: the totalling of these tests cannot reach those of its own.
         let (at, [found, wanted]) = first_difference(bytes, wanted);
-        tally.same((&book, expected, "the sheet from byte", at as i64 - MARGIN as i64), found, wanted);
+        tally.same((&book, expected, by, "the sheet from byte", at as i64 - MARGIN as i64), found, wanted);
     }
 }
 
@@ -82,6 +87,7 @@ struct Met {
 
 pub fn run(report: &mut Report) {
     listing(report);
+    opened_again(report);
     let mut met = Met::default();
     let mut check = |name: &str, cases: Vec<Case>| {
         report.check(&format!("totals, {name}"), |tally| compare(tally, &cases, &mut met));
@@ -118,14 +124,18 @@ fn sheets() -> Vec<Case> {
     lengths.flat_map(|length| books.clone().map(|book| Case { length, seed: length as u8, book })).collect()
 }
 
-/// Totals every book by both, and holds the figures of those that are accepted to the exact value.
+/// Totals every book by the library and twice here, and holds the library's figures to the exact value.
 fn compare(tally: &mut Tally, cases: &[Case], met: &mut Met) {
     for chunk in cases.chunks(CHUNK) {
-        for (case, answer, (expected, totalled)) in cores::each(chunk, |case| (case, case.library(), case.total())) {
-            case.compare(tally, &answer, &expected);
+        let all = cores::each(chunk, |case| (case, case.library(), case.plain(), case.total()));
+        for (case, answer, plain, (expected, totalled)) in all {
+            case.compare(tally, &answer, "total.rs", &expected);
+            case.compare(tally, &answer, "plain.rs", &plain);
             met.add(&totalled);
-            if let Ok(totals) = totalled {
-                exact(&totals).holds(tally, Hex(&case.book), totals.low, totals.high);
+            // Where only one of the two accepts, the comparison above has said so.
+            let (number, [_, _, low, high, _]) = answer.0;
+            if let (0, Ok(totals)) = (number, totalled) {
+                exact(&totals).holds(tally, Hex(&case.book), low, high);
             }
         }
     }
@@ -176,6 +186,19 @@ fn listing(report: &mut Report) {
         tally.same("the listing", whole.library().0, (0, [2, 2400, 92_196_262, 92_196_263, 0]));
         let (answer, bytes) = short.library();
         tally.same("too short a sheet", (answer, Hex(&bytes)), ((16, [0; 5]), Hex(&short.noise())));
+        compare(tally, &cases, &mut Met::default());
+    });
+}
+
+/// A line that was opened is refused with 7, whichever it is and however many there are; and a 33rd with 11.
+fn opened_again(report: &mut Report) {
+    report.check("totals, each line opened again, and a 33rd", |tally| {
+        let (numbers, books): (Vec<_>, Vec<_>) = books::opened_again().into_iter().unzip();
+        let cases = cases(406, books.into_iter(), None);
+        for (case, expected) in cases.iter().zip(numbers) {
+            let ((number, _), _) = case.library();
+            tally.same(Hex(&case.book), number, expected);
+        }
         compare(tally, &cases, &mut Met::default());
     });
 }

@@ -36,6 +36,7 @@
 --     r then λ x. q           q, with x the figure that r gives; where r is a refusal, that refusal
 -- Statements, which hold or do not
 --     x ≡ y, x ≤ y, x < y     x and y are the same; x is at most y; x is less than y. x ≤ℤ y: the same in ℤ
+--     f : ℕ → Type 0          f makes a statement of a number
 --     P × Q                   P and Q
 --     P → Q                   if P, then Q
 --     (g : X) → P → Q         for every g of the kind X: if P, then Q

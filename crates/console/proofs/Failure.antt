@@ -1,6 +1,6 @@
 -- Output of which a write has failed stays as it is: where none has failed, nothing is claimed; and from one write to the next.
 use mathlib.Core.Path.{_≡_, _∙_, sym, ap}
-use mathlib.Core.Bool.{Bool, not, false, false≢true}
+use mathlib.Core.Bool.{not, false, false≢true}
 use borrow.Author.Tests.{not-false}
 use Rattle.console.specs.declared.Output.{Output}
 

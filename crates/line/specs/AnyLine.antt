@@ -51,7 +51,7 @@ addHeight cm tenths l =
     (unless (leb (l .heights .tariffs + T) mostTariffs) 6
     (gives (withHeight T l)))
 
--- the row by steps 4 to 7; what they decline (6), closing declines
+-- the row of a line from its T, d, f and N, by steps 4 to 7: m is the biomass. What these steps decline (6), closing declines
 unfoldable pub worked : Line → ℕ → ℕ → ℕ → ℕ → Report Row
 worked l T d f N = rowBiomass N (treeWith (l .species) T d f) then λ m. gives (rowWith l T d N m)
 

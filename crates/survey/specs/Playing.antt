@@ -66,7 +66,8 @@ abbrev pub afterEnd : List ℕ → ℕ → Survey → Played
 afterEnd book at s = cond (ltb at (length book)) (stopped 5 at) (ended s)
 
 -- The bytes from a place on. `most` only lets the definition end, since each turn has one less of it: each command takes a byte at least, so that `most` above
--- the number of bytes left is never used up, and which such number it is makes no difference (Law.Playing: enough-commands)
+-- the number of bytes left is never used up, and which such number it is makes no difference (Law.Playing: enough-commands). r is the survey that the command
+-- at the place leaves, and the place after it
 unfoldable pub playUpToBy : Rules → ℕ → List ℕ → ℕ → Survey → Played
 playUpToBy rules zero book at s = stopped 1 at
 playUpToBy rules (suc most) book at s =

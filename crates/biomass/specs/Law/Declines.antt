@@ -17,7 +17,6 @@ use Rattle.biomass.specs.Crown.{crown, crownEnds}
 use Rattle.biomass.specs.Root.{root, rootEnds}
 use Rattle.biomass.specs.Tree.{tree, added, rowBiomass, rowOf}
 use Rattle.biomass.specs.Law.Gives.{never, number-is}
-use Rattle.biomass.specs.declared.units.BiomassRange.{BiomassRange}
 use Rattle.biomass.specs.declared.tree.AverageTree.{AverageTree}
 
 -- every number that a report is refused with is such a number

@@ -2,7 +2,7 @@
 use Prim.Native.Nat.{ℕ, zero, suc, _+_, _*_, _/_, _≤_, _<_}
 use native.Mathlib.Nat.{suc-mul, lt-div-mul-add, div-mul-le-self}
 use native.Mathlib.Omega.{arith}
-use lib.Dec.{leb, le→leb, lt→ltb}
+use lib.Dec.{le→leb, lt→ltb}
 use lib.IntN.{ℤ, pos, negsuc, negℤ, sucℤ, _+ℤ_, _*ℤ_, +ℤ-one}
 use lib.Signed.{_≤ℤ_, _<ℤ_, leZ-yes, ltZ-yes}
 use Rattle.biomass.specs.Whole.{_div_}

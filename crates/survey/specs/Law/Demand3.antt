@@ -100,10 +100,11 @@ unfolding sumOf exactSum closingRow
 sum-not-under g no-line below = ≼-refl (whole (pos 0))
 sum-not-under g (and-lines s ss w c) below =
     let rest = sum-not-under (afterFirst g) c (λ i. below (suc i)) in
+    let b = w .within .biomass in
     let low = lowOf (closingRow s) in
     let lows = sumOf lowOf (map closingRow ss) in
     none-or-some (λ (x : Fraction). whole (pos (low + lows)) ≼ x) (estimate s .N) _ _
-    (λ none. rw (w .within .biomass .low-of-none none, zero-add) rest)
+    (λ none. let no-low : low ≡ 0 = omega (arith, b .low-of-none none) in rw (no-low, zero-add) rest)
     (λ some.
     let one = row-not-under (estimate s .N) (estimate s .tree) _ (w .answered some) (g .crown 0) (g .root 0) (below 0 some) in
     rw (← whole-⊕ (pos low) (pos lows)) (⊕-mono one rest))
@@ -114,10 +115,11 @@ unfolding sumOf exactSum closingRow
 sum-not-over g no-line above = ≼-refl (whole (pos 0))
 sum-not-over g (and-lines s ss w c) above =
     let rest = sum-not-over (afterFirst g) c (λ i. above (suc i)) in
+    let b = w .within .biomass in
     let high = highOf (closingRow s) in
     let highs = sumOf highOf (map closingRow ss) in
     none-or-some (λ (x : Fraction). x ≼ whole (pos (high + highs))) (estimate s .N) _ _
-    (λ none. rw (w .within .biomass .high-of-none none, zero-add) rest)
+    (λ none. let no-high : high ≡ 0 = omega (arith, b .high-of-none none) in rw (no-high, zero-add) rest)
     (λ some.
     let one = row-not-over (estimate s .N) (estimate s .tree) _ (w .answered some) (g .crown 0) (g .root 0) (above 0 some) in
     rw (← whole-⊕ (pos high) (pos highs)) (⊕-mono one rest))

@@ -1,6 +1,6 @@
--- "Offer these in turn and see them rejected." The six wrong programs of document 01's last section, and its low of 0: each is offered the listing and a sheet
--- of 800 bytes or more, and what it would hand back is not what totalling promises. "Demand 2 shuts out all six. A low of 0 with a vast high falls to both 2
--- and 3." (Law.Witness has the two of them that are about one command.)
+-- "Offer these in turn and see them rejected." The six wrong programs of document 01's last section, and its low of 0: each is offered the listing, or a book
+-- besides, and a sheet of 800 bytes or more, and what it would hand back is not what totalling promises (Promise). "Demand 2 shuts out all six. A low of 0 with
+-- a vast high falls to both 2 and 3." (Law.Witness has the two of them that are about one command.)
 use Prim.Native.Nat.{ℕ, zero, suc, _+_, _*_, _≤_}
 use native.Mathlib.Omega.{arith}
 use mathlib.Core.Path.{_≡_, _∙_, sym, ap}
@@ -64,21 +64,16 @@ abbrev pub treesBack : Answer → Report ℕ
 treesBack (refusedAt n at) = refused n
 treesBack (totalled t) = gives (t .trees)
 
-one-tree-back : (sheet : List ℕ) → sheetLength ≤ length sheet → treesBack (total oneTree sheet) ≡ gives 67
+-- 67 hundredths of one, and so in its row
+one-tree : (sheet : List ℕ) → sheetLength ≤ length sheet → (treesBack (total oneTree sheet) ≡ gives 67) × (numberAt 4 (sheetAfter oneTree sheet) 5 ≡ 67)
 unfolding
     oneTree encodeAll speciesFrom factorFrom openFrom measuredFrom heightFrom commandFrom read
     fresh declare giveFactor opened openLine applyMeasured addTrees applyHeight addHeight applyClose end
     lineRow greatest meanOf mean trees singleTariff lineTariff worked rowBiomass tree stem crown root
-    stepBy playUpToBy play totalOf sumOf
-one-tree-back sheet room = ap treesBack (total-applied oneTree sheet) ∙ rw (le-ltb (length sheet) sheetLength room)
-
-one-tree-row : (sheet : List ℕ) → sheetLength ≤ length sheet → numberAt 4 (sheetAfter oneTree sheet) 5 ≡ 67
-unfolding
-    oneTree encodeAll speciesFrom factorFrom openFrom measuredFrom heightFrom commandFrom read
-    fresh declare giveFactor opened openLine applyMeasured addTrees applyHeight addHeight applyClose end
-    lineRow greatest meanOf mean trees singleTariff lineTariff worked rowBiomass tree stem crown root
-    stepBy playUpToBy play storedAt sheetBytes rowBytes
-one-tree-row sheet room = ap (λ (l : List ℕ). numberAt 4 l 5) (sheet-applied oneTree sheet) ∙ rw (le-ltb (length sheet) sheetLength room)
+    stepBy playUpToBy play totalOf sumOf storedAt sheetBytes rowBytes
+one-tree sheet room =
+    let long = le-ltb (length sheet) sheetLength room in
+    (ap treesBack (total-applied oneTree sheet) ∙ rw long, ap (λ (l : List ℕ). numberAt 4 l 5) (sheet-applied oneTree sheet) ∙ rw long)
 
 -- ---- "Demand 2 shuts out all six."
 
@@ -86,10 +81,10 @@ one-tree-row sheet room = ap (λ (l : List ℕ). numberAt 4 l 5) (sheet-applied 
 module _ {sheet after : List ℕ} {r : Answer} (room : sheetLength ≤ length sheet) (promised : Promised oneTree sheet r after) where
   -- the trees are step 3's of n 1, p 2 and q 3, in the totals and in the row
   pub trees-from-step-3 : treesBack r ≡ gives (Trees.treesOf 1 2 3)
-  trees-from-step-3 = ap treesBack (promised .answered) ∙ one-tree-back sheet room
+  trees-from-step-3 = ap treesBack (promised .answered) ∙ one-tree sheet room .0
 
   pub row-from-step-3 : numberAt 4 after 5 ≡ Trees.treesOf 1 2 3
-  row-from-step-3 = ap (λ (l : List ℕ). numberAt 4 l 5) (promised .stored) ∙ one-tree-row sheet room
+  row-from-step-3 = ap (λ (l : List ℕ). numberAt 4 l 5) (promised .stored) ∙ one-tree sheet room .1
 
   -- not rounded down; not the measured trees in hundredths, p and q left out; not in whole trees
   pub no-other-trees : (t : Totals) → r ≡ totalled t → (t .trees ≡ 66 → ⊥) × (t .trees ≡ 100 → ⊥) × (t .trees ≡ 1 → ⊥)

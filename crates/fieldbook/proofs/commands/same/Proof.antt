@@ -35,7 +35,7 @@ differ (x ∷ xs) (y ∷ ys) zero h = rw (ne-eqb x y h)
 differ (x ∷ xs) (y ∷ ys) (suc i) h = rw (← differ xs ys i h) (and-false (eqb x y))
 
 -- at an index that the code has come to
-differ-at : {i : ℕ} (a b : List ℕ) → i < 9 → (getD a i 0 ≡ getD b i 0 → ⊥) → false ≡ Numbers.same a b
+differ-at : {i n : ℕ} (a b : List ℕ) → i < n → (getD a i 0 ≡ getD b i 0 → ⊥) → false ≡ Numbers.same a b
 differ-at {i} a b inside = differ a b i
 
 -- lists of 9 numbers that agree up to the index at which the code ends
