@@ -23,7 +23,7 @@ extern "C" {
 /* The version of this header, the Rust crate and the book's format together; CHANGELOG.md has what raises it. */
 #define FIELDBOOK_VERSION_MAJOR 1
 #define FIELDBOOK_VERSION_MINOR 0
-#define FIELDBOOK_VERSION_PATCH 0
+#define FIELDBOOK_VERSION_PATCH 1
 #define FIELDBOOK_VERSION "1.0.1"
 
 /* The numbers of the refusals. */

@@ -45,6 +45,8 @@
 --     record R .. where       a statement of several, which are all to hold. data D .. where: one that holds where one of the cases does
 -- `use` names what a file takes from others; what it takes from `declared` are the types of the code, as Rust has them: `declared.units.Grams` is the type
 -- Grams of src/units.rt. `pub`, `abbrev`, `unfoldable`, `unfolding` and `infixl` matter only to proofs and to the order of signs.
+-- What a routine of src/ promises: `ensures { λ r. ⌜ P ⌝ }` is the statement P of what it answers, r. Of bytes b that are lent to it, `now (b .entry)` are those
+-- when it is called and `now (b .exit)` those when it answers.
 pub mod Whole
 pub mod Report
 -- the limits of a line
