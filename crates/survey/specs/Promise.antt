@@ -1,4 +1,5 @@
--- What totalling promises of any book and any lent sheet: `total` (src/total.rt) ensures just this, and Law.WrongPrograms shows what it rules out.
+-- What totalling promises of any book and any lent sheet. `total` (src/total.rt) ensures this, and beside it only what follows: that a refused book leaves the
+-- sheet as it was (Law.Total: refused-keeps). Law.WrongPrograms shows what it rules out.
 use Prim.Native.Nat.{ℕ}
 use mathlib.Core.Path.{_≡_}
 use mathlib.Core.List.{List}
