@@ -35,7 +35,7 @@ module _ (L H N : ℕ) where
   project-gap left small near =
       none-or-some (λ (high : Grams). high .0 ≤ 11 * L / 6000 + 3 + N / 1000) N _ _ (λ none. omega arith) (λ some. omega arith)
 
-  -- so the low is not above the high
+  -- the low is not above the high
   pub project-ordered : L ≤ H → projectOf (between L H) N .low .0 ≤ projectOf (between L H) N .high .0
   project-ordered ordered = none-or-some (λ (high : Grams). 11 * L / 6000 ≤ high .0) N _ _ (λ none. omega arith) (λ some. omega arith)
 

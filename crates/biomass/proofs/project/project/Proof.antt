@@ -14,12 +14,12 @@ use Rattle.biomass.specs.Law.Report.{Inside, refuses, goes-on, ranges}
 use Rattle.biomass.proofs.project.project.Statement.{statement}
 use Rattle.biomass.proofs.project.project.Tie as tie
 
--- past its test a sum is what `dioxide` takes, and a gram more than it makes of the sum fits
+-- past its test a sum is what `dioxide` takes, and up to a gram more than it makes of the sum fits
 few : {x : ℕ} → Inside 0 x greatestSum → x ≤ greatestSum
 few i = i .most
 
 more-fits : {g : Grams} (m : Milligrams) (n : ℕ) → T (leb n 1) → g ≡ dioxide m → Inside 0 (m .0) greatestSum → g .0 + n < 2 ^ 64
-more-fits m n at-most is i = let few : n ≤ 1 = lit≤ at-most in omega (arith, ap (λ (g : Grams). g .0) is)
+more-fits m n at-most is i = let one-at-most : n ≤ 1 = lit≤ at-most in omega (arith, ap (λ (g : Grams). g .0) is)
 
 -- the two figures, of no trees and of some
 module _ (sums : BiomassRange) {N : ℕ} {low : Grams} (low-is : low ≡ dioxide (sums .low)) where

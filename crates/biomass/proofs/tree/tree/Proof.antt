@@ -19,10 +19,10 @@ use Rattle.biomass.proofs.tree.tree.Tie as tie
 -- where all three parts give a range, each sum fits
 module _ {s c r : BiomassRange} {on-stem on-crown on-root : Biomass} (T d f g crowns roots : ℕ)
     (is-s : on-stem ≡ Biomass.Is s) (is-c : on-crown ≡ Biomass.Is c) (is-r : on-root ≡ Biomass.Is r)
-    (stem-is : biomass on-stem ≡ stem T d f g) (crown-is : biomass on-crown ≡ crown crowns d) (whole-root-is : biomass on-root ≡ root roots d) where
+    (stem-is : biomass on-stem ≡ stem T d f g) (crown-is : biomass on-crown ≡ crown crowns d) (root-is : biomass on-root ≡ root roots d) where
   tree-is : gives (added s c r) ≡ tree (averageTree T d f g crowns roots)
   unfolding tree
-  tree-is = follows-biomass _ stem-is is-s (follows-biomass _ crown-is is-c (follows-biomass _ whole-root-is is-r refl))
+  tree-is = follows-biomass _ stem-is is-s (follows-biomass _ crown-is is-c (follows-biomass _ root-is is-r refl))
 
   bounds : TreeBounds (added s c r)
   bounds = tree-bounds _ _ (sym tree-is)
