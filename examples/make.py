@@ -11,7 +11,7 @@ import sys
 
 here = pathlib.Path(__file__).resolve().parent
 
-# In the order of the command bytes, 01 to 07. A letter that `struct` knows stands for a number of its width: B one byte, H two,
+# In the order of the command bytes, 01 to 08. A letter that `struct` knows stands for a number of its width: B one byte, H two,
 # I four, i four with a sign.
 COMMANDS = [
     'species B crown B root B gravity B constants i i i i',
@@ -21,6 +21,7 @@ COMMANDS = [
     'height B cm H',
     'close',
     'end',
+    'small I mg I',
 ]
 
 

@@ -1,6 +1,6 @@
 /*
  * Every function of bindings/c/fieldbook.h, called as the header has it, in C and in C++: document 01's marked lines
- * and its listing; and its version. The status is 0 where all hold.
+ * and its listing, the saplings of the protocol's Appendix 6, and the version. The status is 0 where all hold.
  */
 #include "fieldbook.h"
 
@@ -19,6 +19,9 @@ static void holds(int condition, const char *what) {
 /* The first command of document 01's listing, the oak. */
 static const uint8_t oak[] = {0x01, 0x03, 0x07, 0x05, 0x38, 0x03, 0x81, 0xac, 0xb0, 0x01, 0x33,
                               0x0d, 0x78, 0xff, 0xff, 0x2a, 0x04, 0xff, 0xff, 0x1f, 0xcb};
+
+/* 289 saplings, each of 0.0015756 t of carbon. */
+static const uint8_t saplings[] = {0x08, 0x00, 0x18, 0x0a, 0xb0, 0x00, 0x00, 0x01, 0x21};
 
 /* The text is the three numbers. */
 static void version(void) {
@@ -55,6 +58,16 @@ static void biomass(void) {
     holds(fieldbook_row(100, t, 600, 101, 56, 7, 5, row) == 0 && are(row, tree[0], tree[1] + 1), "a row of one tree");
 }
 
+/* They stand on 0.1 of 24 ha. The greatest carbon is that of four bytes. */
+static void small_trees(void) {
+    uint64_t number, ends[2];
+    holds(fieldbook_trees(289, 240000, 1000, &number) == 0 && number == 6936000, "the saplings");
+    holds(fieldbook_small_trees(number, 1575600, ends) == 0 && are(ends, 218567232000, 218567232001), "their biomass");
+    holds(fieldbook_small_trees(0, UINT32_MAX, ends) == 0 && are(ends, 0, 0), "no small trees");
+    holds(fieldbook_small_trees(100000001, 1, ends) == FIELDBOOK_OPERAND && are(ends, 0, 0), "6, the number");
+    holds(fieldbook_small_trees(100, 0, ends) == FIELDBOOK_OPERAND && are(ends, 0, 0), "6, the carbon");
+}
+
 static void commands(void) {
     const int64_t wanted[] = {FIELDBOOK_SPECIES, 3, 7, 5, 56, 58830000, 20123000, -54780, -57397};
     uint64_t command[FIELDBOOK_COMMAND_NUMBERS];
@@ -67,6 +80,8 @@ static void commands(void) {
     holds(memcmp(buffer + 1, oak, sizeof oak) == 0, "the bytes");
     holds(fieldbook_write(buffer, sizeof buffer, 3, command, &next) == FIELDBOOK_NO_ROOM && next == 3, "4");
     holds(fieldbook_read(oak, sizeof oak - 1, 0, command, &next) == FIELDBOOK_CUT_SHORT && next == 0, "3");
+    holds(fieldbook_read(saplings, sizeof saplings, 0, command, &next) == 0 && next == sizeof saplings, "reading 08");
+    holds(command[0] == FIELDBOOK_SMALL && command[1] == 1575600 && command[2] == 289 && command[3] == 0, "08");
 }
 
 static void books(void) {
@@ -85,6 +100,7 @@ int main(void) {
     version();
     tariffs_and_trees();
     biomass();
+    small_trees();
     commands();
     books();
     return status;

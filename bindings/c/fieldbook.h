@@ -22,9 +22,9 @@ extern "C" {
 
 /* The version of this header, the Rust crate and the book's format together; CHANGELOG.md has what raises it. */
 #define FIELDBOOK_VERSION_MAJOR 1
-#define FIELDBOOK_VERSION_MINOR 0
-#define FIELDBOOK_VERSION_PATCH 1
-#define FIELDBOOK_VERSION "1.0.1"
+#define FIELDBOOK_VERSION_MINOR 1
+#define FIELDBOOK_VERSION_PATCH 0
+#define FIELDBOOK_VERSION "1.1.0"
 
 /* The numbers of the refusals. */
 enum {
@@ -35,15 +35,15 @@ enum {
     FIELDBOOK_NO_ROOM = 4,         /* too few bytes from there; no book gets it */
     FIELDBOOK_ENDED = 5,           /* the book has ended: bytes after 07 */
     FIELDBOOK_OPERAND = 6,         /* an operand is outside its range */
-    FIELDBOOK_ALREADY_GIVEN = 7,   /* the species or factor is given, or a line of this stratum and species opened */
+    FIELDBOOK_ALREADY_GIVEN = 7,   /* already given: species, factor, line of stratum and species, its small trees */
     FIELDBOOK_UNDECLARED = 8,      /* the species is not declared */
     FIELDBOOK_LINE_OPEN = 9,       /* a line is open */
     FIELDBOOK_NO_LINE = 10,        /* no line is open */
-    FIELDBOOK_LIMIT = 11,          /* 32 lines are opened, or the line would be over a limit of its trees */
+    FIELDBOOK_LIMIT = 11,          /* 32 lines are opened, or the line would have too many measured or height trees */
     FIELDBOOK_NO_HEIGHT_TREE = 12, /* no height tree */
     FIELDBOOK_TARIFF = 13,         /* the tariff is outside 1 to 50 */
     FIELDBOOK_NO_FACTOR = 14,      /* no factor for the line's mean diameter */
-    FIELDBOOK_TOO_MANY_TREES = 15, /* more than 1,000,000 estimated trees */
+    FIELDBOOK_TOO_MANY_TREES = 15, /* more than 1,000,000 estimated trees of one sort, measured or small */
     FIELDBOOK_SHORT_SHEET = 16     /* the sheet has fewer than 800 bytes */
 };
 
@@ -53,7 +53,7 @@ enum { FIELDBOOK_ROW_BYTES = 25, FIELDBOOK_SHEET_BYTES = 800 };
 /* What stands where in the answer of fieldbook_total. */
 enum {
     FIELDBOOK_TOTAL_ROWS,  /* how many rows stand in the sheet */
-    FIELDBOOK_TOTAL_TREES, /* the estimated trees of all rows, in hundredths */
+    FIELDBOOK_TOTAL_TREES, /* the estimated trees of all rows, measured and small, in hundredths */
     FIELDBOOK_TOTAL_LOW,   /* in grams of carbon dioxide */
     FIELDBOOK_TOTAL_HIGH,
     FIELDBOOK_TOTAL_PLACE, /* of a refusal: the place of the command, in bytes from 0; else 0 */
@@ -64,10 +64,10 @@ enum {
 enum {
     FIELDBOOK_ROW_STRATUM,
     FIELDBOOK_ROW_SPECIES,
-    FIELDBOOK_ROW_TARIFF,
-    FIELDBOOK_ROW_D,     /* the mean diameter, in tenths of a cm */
-    FIELDBOOK_ROW_TREES, /* the estimated trees, in hundredths */
-    FIELDBOOK_ROW_LOW,   /* in milligrams of oven-dry biomass */
+    FIELDBOOK_ROW_TARIFF, /* 0 where no tree was measured; so is the mean diameter */
+    FIELDBOOK_ROW_D,      /* the mean diameter of the measured trees, in tenths of a cm */
+    FIELDBOOK_ROW_TREES,  /* the estimated trees, measured and small, in hundredths */
+    FIELDBOOK_ROW_LOW,    /* in milligrams of oven-dry biomass */
     FIELDBOOK_ROW_HIGH,
     FIELDBOOK_ROW_NUMBERS
 };
@@ -82,6 +82,7 @@ enum {
  *     05 height tree      cm, tenths of a metre
  *     06 close the line
  *     07 end of the book
+ *     08 small trees      carbon of one in milligrams, count
  */
 enum {
     FIELDBOOK_SPECIES = 1,
@@ -91,6 +92,7 @@ enum {
     FIELDBOOK_HEIGHT = 5,
     FIELDBOOK_CLOSE = 6,
     FIELDBOOK_END = 7,
+    FIELDBOOK_SMALL = 8,
     FIELDBOOK_COMMAND_NUMBERS = 9
 };
 
@@ -135,7 +137,7 @@ uint8_t fieldbook_line_tariff(uint64_t sum, uint64_t number, uint64_t *answer);
 /* The mean diameter in tenths of a cm: 1 to 1,000,000 measured trees, and the sum of their classes squared. */
 uint8_t fieldbook_mean(uint64_t n, uint64_t squares, uint64_t *answer);
 
-/* The estimated trees in hundredths: measured trees, up to 1,000,000; p and q, 1 to 100,000,000. */
+/* The estimated trees in hundredths: measured trees or small ones, up to 1,000,000; p and q, 1 to 100,000,000. */
 uint8_t fieldbook_trees(uint64_t n, uint64_t p, uint64_t q, uint64_t *answer);
 
 /* One tree's stem, crown and root, and all three, in milligrams of oven-dry biomass. */
@@ -145,9 +147,14 @@ uint8_t fieldbook_root(uint64_t group, uint64_t d, uint64_t answer[FIELDBOOK_END
 uint8_t fieldbook_tree(uint64_t tariff, uint64_t d, uint64_t factor, uint64_t gravity, uint64_t crown, uint64_t root,
                        uint64_t answer[FIELDBOOK_ENDS]);
 
-/* A row in milligrams of oven-dry biomass: so many estimated trees in hundredths, up to 100,000,000, of such a tree. */
+/* The measured trees of a row, in milligrams of oven-dry biomass: so many estimated trees in hundredths, up to
+   100,000,000, of such a tree. */
 uint8_t fieldbook_row(uint64_t trees, uint64_t tariff, uint64_t d, uint64_t factor, uint64_t gravity, uint64_t crown,
                       uint64_t root, uint64_t answer[FIELDBOOK_ENDS]);
+
+/* The small trees of a row, in milligrams of oven-dry biomass: so many of them, estimated, in hundredths, up to
+   100,000,000, and the carbon of one in milligrams, 1 to 4,294,967,295. */
+uint8_t fieldbook_small_trees(uint64_t number, uint64_t carbon, uint64_t answer[FIELDBOOK_ENDS]);
 
 /* A project in grams of carbon dioxide: the sums of its rows' lows and highs in milligrams, each up to
    1,676,976,733,973,595,601, and of their trees. */

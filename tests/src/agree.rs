@@ -24,6 +24,7 @@ pub const CROWN: Pair<2, steps::Ends> = Pair { ask: proved::crown, step: steps::
 pub const ROOT: Pair<2, steps::Ends> = Pair { ask: proved::root, step: steps::root };
 pub const TREE: Pair<6, steps::Ends> = Pair { ask: proved::tree, step: steps::tree };
 pub const ROW: Pair<7, steps::Ends> = Pair { ask: proved::row, step: steps::row };
+pub const SMALL_TREES: Pair<2, steps::Ends> = Pair { ask: proved::small_trees, step: steps::small_trees };
 pub const PROJECT: Pair<3, steps::Ends> = Pair { ask: proved::project, step: steps::project };
 
 pub const TARIFF: (u64, u64) = (1, 50);
@@ -39,6 +40,7 @@ pub const MEASURED: (u64, u64) = (0, 1_000_000);
 pub const AREA: (u64, u64) = (1, 100_000_000);
 const NUMBER: (u64, u64) = (1, 1000);
 pub const HUNDREDTHS: (u64, u64) = (0, 100_000_000);
+pub const CARBON: (u64, u64) = (1, u32::MAX as u64);
 pub const SUM: (u64, u64) = (0, steps::GREATEST_SUM);
 pub const ANY: (u64, u64) = (0, u64::MAX);
 
@@ -253,6 +255,20 @@ fn sums(report: &mut Report) {
             ROW.agree(tally, [random.of_any_size(HUNDREDTHS.1), t, d, f, s, c, r]);
         }
     });
+    report.check("small trees, at the ends and by chance", |tally| {
+        let mut random = Random::new(14);
+        let ends = |(least, most): (u64, u64)| (least..=least + 1_000).chain(most - 1_000..=most);
+        for number in ends(HUNDREDTHS) {
+            for carbon in ends(CARBON) {
+                SMALL_TREES.agree(tally, [number, carbon]);
+            }
+        }
+        for _ in 0..1_000_000 {
+            SMALL_TREES.agree(tally, some(&mut random, [HUNDREDTHS, CARBON]));
+            let operands = [HUNDREDTHS, CARBON].map(|(least, most)| random.of_any_size(most).max(least));
+            SMALL_TREES.agree(tally, operands);
+        }
+    });
     report.check("project, at the ends and by chance", |tally| {
         let mut random = Random::new(9);
         // 6000 mg are 11 g: the steps of the division, and the ends of the sums.
@@ -354,5 +370,6 @@ fn refusals(report: &mut Report) {
     report.check("refusals of the root", |tally| refuse(tally, &ROOT, [ROOT_GROUP, D]));
     report.check("refusals of the tree", |tally| refuse(tally, &TREE, TREE_RANGES));
     report.check("refusals of the row", |tally| refuse(tally, &ROW, row_ranges()));
+    report.check("refusals of the small trees", |tally| refuse(tally, &SMALL_TREES, [HUNDREDTHS, CARBON]));
     report.check("refusals of the project", |tally| refuse(tally, &PROJECT, [SUM, SUM, ANY]));
 }

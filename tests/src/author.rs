@@ -1,13 +1,15 @@
 //! One who writes commands, by chance and at the ends of their operands, the same in every run.
-use crate::book::{Command, END};
+use crate::book::{Command, CLOSE, END, FACTOR, HEIGHT, MEASURED, NAMES, OPEN, SMALL, SPECIES};
 use crate::random::Random;
 
 pub const CM: (u64, u64) = (7, 100);
 const AREA: (u64, u64) = (1, 100_000_000);
 pub const FOUR_BYTES: (u64, u64) = (0, u32::MAX as u64);
+const CARBON: (u64, u64) = (1, u32::MAX as u64);
+const SMALL_TREES: (u64, u64) = (1, 1_000_000);
 
 /// The range of each operand, for the commands from 01 on.
-const RANGES: [&[(u64, u64)]; 7] = [
+const RANGES: [&[(u64, u64)]; NAMES.len()] = [
     &[(0, 15), (0, 7), (0, 5), (1, 100), FOUR_BYTES, FOUR_BYTES, FOUR_BYTES, FOUR_BYTES],
     &[CM, (100, 200)],
     &[(0, 255), (0, 15), AREA, AREA],
@@ -15,7 +17,11 @@ const RANGES: [&[(u64, u64)]; 7] = [
     &[(10, 100), (1, 600)],
     &[],
     &[],
+    &[CARBON, SMALL_TREES],
 ];
+
+/// The commands after which a book goes on.
+const NOT_THE_END: [u8; NAMES.len() - 1] = [SPECIES, FACTOR, OPEN, MEASURED, HEIGHT, CLOSE, SMALL];
 
 /// For each command a book of it alone: each operand in turn at the ends of its range, one beyond each, and at the ends
 /// of what its bytes can hold, with a sign and without; the others at their least.
@@ -62,7 +68,7 @@ impl Author {
 
     /// Any command, the end seldom, every other one with an operand at an end of its range or one beyond.
     pub fn stray(&mut self) {
-        let byte = if self.one_in(40) { END } else { self.random.between(1, 6) as u8 };
+        let byte = if self.one_in(40) { END } else { self.one_of(&NOT_THE_END) };
         let ranges = RANGES[usize::from(byte) - 1];
         let mut operands: Vec<u64> = ranges.iter().map(|&(least, most)| self.random.between(least, most)).collect();
         if !ranges.is_empty() && self.one_in(2) {
@@ -86,6 +92,12 @@ impl Author {
         let [crown, root, gravity] =
             [1, 2, 3].map(|i| RANGES[0][i]).map(|(least, most)| self.random.between(least, most));
         [id, crown, root, gravity, c1, c2, c3, c4]
+    }
+
+    /// The operands of small trees: carbon and count of many sizes.
+    pub fn small_operands(&mut self) -> [u64; 2] {
+        let most = self.one_of(&[10, 1_000, 50_000, SMALL_TREES.1]);
+        [CARBON.0 + self.random.of_any_size(CARBON.1 - CARBON.0), self.random.between(SMALL_TREES.0, most)]
     }
 
     /// Two areas in their range, with quotients of many sizes.

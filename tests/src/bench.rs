@@ -189,6 +189,8 @@ fn figures_of_biomass(pace: Pace, tally: &mut Tally) {
     figure((pace, tally), "tree", &agree::TREE, operands, |tree| fieldbook::tree(tree_of(tree)));
     let operands = sets(|random| some(random, agree::row_ranges()));
     figure((pace, tally), "row", &agree::ROW, operands, |[trees, tree @ ..]| fieldbook::row(trees, tree_of(tree)));
+    let operands = sets(|random| some(random, [agree::HUNDREDTHS, agree::CARBON]));
+    figure((pace, tally), "small trees", &agree::SMALL_TREES, operands, |[n, c]| fieldbook::small_trees(n, c));
     let operands = sets(|random| some(random, [agree::SUM, agree::SUM, agree::ANY]));
     figure((pace, tally), "project", &agree::PROJECT, operands, |[low, high, trees]| {
         fieldbook::project(Range { low: Milligrams(low), high: Milligrams(high) }, trees)

@@ -1,6 +1,8 @@
-//! Document 01's commands once more: reading one at a place, reading on from there, and writing one.
+//! The commands of documents 01 and 02 once more: reading one at a place, reading on from there, and writing one.
 //! Err holds the number of the refusal.
 use crate::total::Refused;
+use std::iter;
+use std::ops::Range;
 
 const AT_OR_PAST_THE_END: u64 = 1;
 pub const UNKNOWN_BYTE: u64 = 2;
@@ -8,10 +10,13 @@ const OPERANDS_CUT_SHORT: u64 = 3;
 const TOO_FEW_BYTES: u64 = 4;
 
 /// What each command is called, from 01 on.
-pub const NAMES: [&str; 7] = ["species", "factor", "open", "measured", "height", "close", "end"];
+pub const NAMES: [&str; 8] = ["species", "factor", "open", "measured", "height", "close", "end", "small"];
+
+/// The commands that have operands.
+pub const WITH_OPERANDS: [&str; 6] = ["species", "factor", "open", "measured", "height", "small"];
 
 /// How many bytes each operand takes, for the commands from 01 on.
-const WIDTHS: [&[usize]; 7] = [&[1, 1, 1, 1, 4, 4, 4, 4], &[1, 1], &[1, 1, 4, 4], &[1, 2], &[1, 2], &[], &[]];
+const WIDTHS: [&[usize]; 8] = [&[1, 1, 1, 1, 4, 4, 4, 4], &[1, 1], &[1, 1, 4, 4], &[1, 2], &[1, 2], &[], &[], &[4, 4]];
 
 pub const SPECIES: u8 = 1;
 pub const FACTOR: u8 = 2;
@@ -20,6 +25,7 @@ pub const MEASURED: u8 = 4;
 pub const HEIGHT: u8 = 5;
 pub const CLOSE: u8 = 6;
 pub const END: u8 = 7;
+pub const SMALL: u8 = 8;
 
 /// A command's byte and its operands, each as the whole number that its bytes spell.
 pub struct Command {
@@ -68,6 +74,17 @@ pub fn read(book: &[u8], at: usize) -> Result<(Command, usize), u64> {
         place += width;
     }
     Ok((Command { byte, operands }, place))
+}
+
+/// Where commands stand, from the first on.
+pub fn places(book: &[u8]) -> impl Iterator<Item = Range<usize>> + '_ {
+    let mut at = 0;
+    iter::from_fn(move || {
+        let widths = widths(*book.get(at)?)?;
+        let place = at..at + 1 + widths.iter().sum::<usize>();
+        at = place.end;
+        (at <= book.len()).then_some(place)
+    })
 }
 
 /// The commands from a place on, each with its place, up to the first refusal.

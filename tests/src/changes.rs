@@ -5,19 +5,26 @@ use crate::total::{total, LEAST_SHEET};
 use crate::{book, books, streams};
 use std::ops::Range;
 
-/// Accepted books to begin with: of a few lines, and at the limits of document 01.
+/// Accepted books to begin with: of a few lines, at the limits of document 01, and at those of small trees.
 pub struct Pool {
     short: Vec<Vec<u8>>,
     limits: Vec<Vec<u8>>,
+    small_limits: Vec<Vec<u8>>,
 }
 
 impl Pool {
     pub fn new(seed: u64) -> Pool {
         // Room above for the seeds that follow it.
         let first = Random::new(seed).any() >> 1;
-        let mut limits = books::edges(first..first + 12);
-        limits.retain(|book| total(book, &mut [0; LEAST_SHEET]).is_ok());
-        Pool { short: (first..first + 2_000).map(books::accepted).collect(), limits }
+        let accepted = |mut books: Vec<Vec<u8>>| {
+            books.retain(|book| total(book, &mut [0; LEAST_SHEET]).is_ok());
+            books
+        };
+        Pool {
+            short: (first..first + 2_000).map(books::accepted).collect(),
+            limits: accepted(books::edges(first..first + 12)),
+            small_limits: accepted(books::edges_of_small_trees(first..first + 12)),
+        }
     }
 }
 
@@ -30,18 +37,9 @@ pub struct Changer<'a> {
     commands: Vec<Range<usize>>,
 }
 
-/// Where commands stand, from the first on.
 fn find_commands(book: &[u8], commands: &mut Vec<Range<usize>>) {
     commands.clear();
-    let mut at = 0;
-    while let Some(widths) = book.get(at).and_then(|&byte| book::widths(byte)) {
-        let next = at + 1 + widths.iter().sum::<usize>();
-        if next > book.len() {
-            return;
-        }
-        commands.push(at..next);
-        at = next;
-    }
+    commands.extend(book::places(book));
 }
 
 impl<'a> Changer<'a> {
@@ -77,7 +75,11 @@ impl<'a> Changer<'a> {
     }
 
     fn any_book(&mut self) -> &'a [u8] {
-        let pool = if self.author.one_in(20) { &self.pool.limits } else { &self.pool.short };
+        let pool = match self.author.random.between(1, 20) {
+            1 => &self.pool.limits,
+            2 => &self.pool.small_limits,
+            _ => &self.pool.short,
+        };
         &pool[self.author.random.between(0, pool.len() as u64 - 1) as usize]
     }
 

@@ -1,5 +1,5 @@
 //! The program `commands`, which prints the commands of a book, against the commands that these tests read.
-use crate::book::{self, signed, Command, CLOSE, END, FACTOR, HEIGHT, MEASURED, OPEN, SPECIES};
+use crate::book::{self, signed, Command, CLOSE, END, FACTOR, HEIGHT, MEASURED, OPEN, SMALL, SPECIES};
 use crate::printer::Printer;
 use crate::report::Report;
 use crate::total::Refused;
@@ -12,8 +12,7 @@ const COMMANDS: Printer = Printer { name: "commands", of_book };
 const OFTEN: u64 = 100;
 
 /// Where reading may end: the number of the refusal, and the names of the commands there, "" for none.
-const ANSWERS: [(u64, &[&str]); 3] =
-    [(1, &[""]), (2, &[""]), (3, &["species", "factor", "open", "measured", "height"])];
+const ANSWERS: [(u64, &[&str]); 3] = [(1, &[""]), (2, &[""]), (3, &book::WITH_OPERANDS)];
 
 /// Texts that are worked out by hand. The second book has operands at the ends of what their bytes can hold, a command
 /// after the end, and a command that is cut short.
@@ -34,13 +33,15 @@ const ENDS: (&[u8], &str) = (
     \x01\xff\0\xff\0\x80\0\0\0\x7f\xff\xff\xff\xff\xff\xff\xff\0\0\0\0\
     \x07\
     \x03\0\xff\xff\xff\xff\xff\0\0\0\0\
+    \x08\xff\xff\xff\xff\0\0\0\0\
     \x04\xff\xff",
     "\
 0 species 255 crown 0 root 255 gravity 0 constants -2147483648 2147483647 -1 0
 21 end
 22 open stratum 0 species 255 p 4294967295 q 0
-commands 3 bytes 33
-refused 3 at 33
+33 small 4294967295 mg 0
+commands 4 bytes 42
+refused 3 at 42
 ",
 );
 
@@ -89,6 +90,7 @@ fn words(command: &Command) -> String {
         (HEIGHT, [cm, tenths]) => format!("height {cm} cm {tenths}"),
         (CLOSE, []) => "close".to_string(),
         (END, []) => "end".to_string(),
+        (SMALL, [carbon, count]) => format!("small {carbon} mg {count}"),
         (byte, operands) => unreachable!("{byte} with operands {operands:?}"),
     }
 }

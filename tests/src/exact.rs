@@ -1,6 +1,6 @@
 //! The proved library against the exact value: the protocol's equations unrounded, as fractions of whole
 //! numbers, with the two powers held between whole numbers.
-use crate::agree::{some, CROWN_GROUP, D, FACTORS, GRAVITIES, HUNDREDTHS, ROOT_GROUP, TARIFF, TREE_RANGES};
+use crate::agree::{some, CARBON, CROWN_GROUP, D, FACTORS, GRAVITIES, HUNDREDTHS, ROOT_GROUP, TARIFF, TREE_RANGES};
 use crate::natural::Natural;
 use crate::random::Random;
 use crate::report::{Report, Tally};
@@ -49,7 +49,7 @@ fn root(group: u64, d: u64, more: i128) -> i128 {
 
 /// The exact value of a project, held between whole numbers of parts: 600,000 times PARTS to 11 g.
 pub struct Exact {
-    /// The N of all lines added.
+    /// The N of all lines added, both sorts.
     pub trees: u64,
     least: Natural,
     most: Natural,
@@ -60,7 +60,8 @@ impl Exact {
         Exact { trees: 0, least: Natural::of(0), most: Natural::of(0) }
     }
 
-    /// Adds a line by its N and its tree. w·10^-5 is not above the power, (w+1)·10^-5 not below; the root's y the same.
+    /// Adds measured trees by their number and their tree. w·10^-5 is not above the power, (w+1)·10^-5 not below; the
+    /// root's y the same.
     pub fn add(&mut self, n: u64, [t, d, f, s, c, r]: [u64; 6]) {
         let line = |more| {
             let tree = stem(t, d, f, s) + crown(c, d, more) + root(r, d, more);
@@ -69,6 +70,15 @@ impl Exact {
         self.trees += n;
         self.least = self.least.plus(&line(0));
         self.most = self.most.plus(&line(1));
+    }
+
+    /// Adds small trees by their number and the carbon of one: twice the carbon is the biomass, with nothing to round.
+    pub fn add_small(&mut self, number: u64, carbon: u64) {
+        let hundredths = Natural::of(u128::from(number) * 2 * u128::from(carbon));
+        let line = hundredths.times(&Natural::of(PARTS as u128));
+        self.trees += number;
+        self.least = self.least.plus(&line);
+        self.most = self.most.plus(&line);
     }
 
     /// What is to hold of the project's low and high.
@@ -88,6 +98,7 @@ impl Exact {
 pub fn run(report: &mut Report) {
     the_powers(report);
     the_parts(report);
+    the_small_trees(report);
     the_tree(report);
     the_project(report);
 }
@@ -181,6 +192,30 @@ fn the_parts(report: &mut Report) {
     });
 }
 
+/// The exact part is number times twice the carbon, in hundredths of a mg.
+fn the_small_trees(report: &mut Report) {
+    report.check("small trees, low ≤ exact ≤ high, and a mg apart exactly where there are any", |tally| {
+        let mut random = Random::new(22);
+        let mut look = |number: u64, carbon: u64| {
+            let [low, high] = proved::small_trees([number, carbon]).accepted();
+            let exact = u128::from(number) * 2 * u128::from(carbon);
+            let [least, most] = [low, high].map(|mg| 100 * u128::from(mg));
+            tally.holds(least <= exact && exact <= most, (number, carbon, low, high));
+            tally.holds(high - low == u64::from(number > 0), (number, carbon, low, high, "apart"));
+        };
+        // Every remainder by 100, and none: a whole mg has its one more too.
+        for number in (0..=1_000).chain(HUNDREDTHS.1 - 1_000..=HUNDREDTHS.1) {
+            for carbon in (1..=200).chain(CARBON.1 - 200..=CARBON.1) {
+                look(number, carbon);
+            }
+        }
+        for _ in 0..500_000 {
+            let [number, carbon] = some(&mut random, [HUNDREDTHS, CARBON]);
+            look(number, carbon);
+        }
+    });
+}
+
 fn the_tree(report: &mut Report) {
     report.check("tree, the gap is at most 54 mg", |tally| {
         let mut widest = (0, [0; 6]);
@@ -208,26 +243,34 @@ fn the_tree(report: &mut Report) {
     });
 }
 
-/// Rows of up to 32 lines: the project's ends, their gap, and the exact value between them.
+/// The numbers that a round's lines have: none, the most, or any.
+fn hundredths(random: &mut Random, round: u64) -> u64 {
+    match round % 4 {
+        0 => 0,
+        1 => HUNDREDTHS.1,
+        _ => random.of_any_size(HUNDREDTHS.1),
+    }
+}
+
+/// Rows of up to 32 lines, of both sorts of trees: the project's ends, their gap, and the exact value between them.
 fn the_project(report: &mut Report) {
     report.check("project, equal ends exactly without trees, the gap's limit, low ≤ exact ≤ high", |tally| {
         let mut random = Random::new(21);
-        for round in 0..20_000 {
+        for round in 0..40_000 {
             let lines = random.between(1, 32);
             let [mut low, mut high] = [0; 2];
             let mut exact = Exact::new();
             for _ in 0..lines {
-                let n = match round % 4 {
-                    0 => 0,
-                    1 => HUNDREDTHS.1,
-                    _ => random.of_any_size(HUNDREDTHS.1),
-                };
+                let [measured, small] = [round, round / 4].map(|round| hundredths(&mut random, round));
                 let tree = some(&mut random, TREE_RANGES);
                 let [t, d, f, s, c, r] = tree;
-                let row = proved::row([n, t, d, f, s, c, r]).accepted();
-                low += row[0];
-                high += row[1];
-                exact.add(n, tree);
+                let carbon = random.between(CARBON.0, CARBON.1);
+                let row = proved::row([measured, t, d, f, s, c, r]).accepted();
+                let small_row = proved::small_trees([small, carbon]).accepted();
+                low += row[0] + small_row[0];
+                high += row[1] + small_row[1];
+                exact.add(measured, tree);
+                exact.add_small(small, carbon);
             }
             let project = proved::project([low, high, exact.trees]).accepted();
             exact.holds(tally, (low, high), project[0], project[1]);

@@ -129,7 +129,7 @@ const fn species([crown, root, gravity]: [u8; 3], constants: [i32; 4]) -> Specie
 }
 
 /// Commands as the crate has them, with operands that all differ or are at an end, and their bytes, worked out by hand.
-const BY_HAND: [(&[u8], Told); 9] = [
+const BY_HAND: [(&[u8], Told); 11] = [
     (
         b"\x01\x02\x03\x04\x05\x00\x00\x00\x06\xff\xff\xff\xf9\x01\x02\x03\x04\xfe\xfd\xfc\xfc",
         Told::Species(2, species([3, 4, 5], [6, -7, 0x0102_0304, -0x0102_0304])),
@@ -148,6 +148,8 @@ const BY_HAND: [(&[u8], Told); 9] = [
     (b"\x05\x13\x14\x15", Told::Height { cm: 19, tenths: 0x1415 }),
     (b"\x06", Told::Close),
     (b"\x07", Told::End),
+    (b"\x08\x16\x17\x18\x19\x1a\x1b\x1c\x1d", Told::Small { carbon: 0x1617_1819, count: 0x1a1b_1c1d }),
+    (b"\x08\xff\xff\xff\xff\0\0\0\0", Told::Small { carbon: u32::MAX, count: 0 }),
 ];
 
 fn by_hand(report: &mut Report) {
@@ -200,7 +202,7 @@ fn too_great(width: usize, signed: bool) -> Vec<u64> {
 /// Each command with one number too great for its operand, or where it has no operand.
 fn with_a_wrong_number() -> Vec<[u64; 9]> {
     let mut all = Vec::new();
-    for byte in 1..=7 {
+    for byte in 1..=8 {
         let widths = book::widths(byte).expect("a command's byte");
         let least = numbers(&Command { byte, operands: vec![1; widths.len()] });
         for i in 0..8 {
@@ -220,8 +222,8 @@ fn with_a_wrong_number() -> Vec<[u64; 9]> {
 
 /// Numbers of which the first is no command's byte.
 fn of_no_command() -> Vec<[u64; 9]> {
-    let disguised = [8, 16, 32, 63].into_iter().flat_map(|bit| (1..=7).map(move |byte| byte | 1 << bit));
-    let bytes = [0].into_iter().chain(8..=255).chain(disguised).chain([u64::MAX]);
+    let disguised = [8, 16, 32, 63].into_iter().flat_map(|bit| (1..=8).map(move |byte| byte | 1 << bit));
+    let bytes = [0].into_iter().chain(9..=255).chain(disguised).chain([u64::MAX]);
     bytes.flat_map(|byte| [0, 1, u64::MAX].map(|x| [byte, x, x, x, x, x, x, x, x])).collect()
 }
 
@@ -234,7 +236,7 @@ fn writing(report: &mut Report) {
     for (kind, commands) in kinds {
         report.check(&format!("library, writing, {kind}"), |tally| {
             for command in &commands {
-                for length in [0, 1, 2, 3, 4, 10, 11, 12, 20, 21, 22, 30] {
+                for length in [0, 1, 2, 3, 4, 8, 9, 10, 11, 12, 20, 21, 22, 30] {
                     for at in (0..=length + 1).chain([usize::MAX - 20, usize::MAX]) {
                         same_writing(tally, length, at, command);
                     }

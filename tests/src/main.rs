@@ -1,5 +1,5 @@
-//! Tests of the proved libraries from outside: against an implementation of document 01 that shares nothing
-//! with them, against exact arithmetic, and against the protocol's worked figures.
+//! Tests of the proved libraries from outside: against an implementation of documents 01 and 02 that shares
+//! nothing with them, against exact arithmetic, and against the protocol's worked figures.
 //!
 //! `outside` runs every check. `outside figures` prints the library's crowns and roots for power_table.py, `outside
 //! fuzz SEED SECONDS` totals books by chance, and `outside bench` takes times.
@@ -15,6 +15,7 @@ mod exact;
 mod fuzz;
 mod library;
 mod listing;
+mod met;
 mod natural;
 mod plain;
 mod play;

@@ -1,4 +1,4 @@
-//! Document 01's totalling as one would write it in Rust to be fast: one pass over the book, arrays, 64-bit numbers.
+//! Totalling as one would write it in Rust to be fast: one pass over the book, arrays, 64-bit numbers.
 //! `totals` and the fuzz run hold the proved library against it, and the benchmark measures both. Its tables are those of
 //! the protocol's text and of `powers`; nothing is the library's.
 use crate::{powers, protocol};
@@ -78,6 +78,9 @@ struct Line {
     squares: u64,
     heights: u64,
     tariffs: u64,
+    /// Of small trees: the carbon of one, and how many. 0 until they are given.
+    carbon: u32,
+    small: u32,
 }
 
 #[derive(Clone, Copy, Default)]
@@ -183,33 +186,62 @@ impl Line {
         Ok(())
     }
 
+    fn small(&mut self, carbon: u32, count: u32) -> Result<(), Refusal> {
+        within(1, carbon.into(), u64::MAX)?;
+        within(1, count.into(), 1_000_000)?;
+        decline(self.small != 0, ALREADY_GIVEN)?;
+        (self.carbon, self.small) = (carbon, count);
+        Ok(())
+    }
+
+    /// So many trees of the plots stand for this many, in hundredths.
+    fn estimated(&self, count: u64) -> Result<u64, Refusal> {
+        let q = u64::from(self.q);
+        let trees = (200 * count * u64::from(self.p) + q) / (2 * q);
+        decline(trees > 100_000_000, TOO_MANY_TREES)?;
+        Ok(trees)
+    }
+
     fn row(&self, factors: &[u8; 101]) -> Result<Row, Refusal> {
-        let (stratum, species) = (self.stratum, self.id);
-        if self.n == 0 {
-            return Ok(Row { stratum, species, ..Row::default() });
+        let mut row = Row { stratum: self.stratum, species: self.id, ..Row::default() };
+        if self.n > 0 {
+            self.add_measured(&mut row, factors)?;
         }
+        if self.small > 0 {
+            self.add_small(&mut row)?;
+        }
+        Ok(row)
+    }
+
+    fn add_measured(&self, row: &mut Row, factors: &[u8; 101]) -> Result<(), Refusal> {
         decline(self.heights == 0, NO_HEIGHT_TREE)?;
         let d = (400 * self.squares / self.n).isqrt().div_ceil(2);
         let factor = factors[(d / 10) as usize];
         decline(factor == 0, NO_FACTOR)?;
-        let q = u64::from(self.q);
-        let trees = (200 * self.n * u64::from(self.p) + q) / (2 * q);
-        decline(trees > 100_000_000, TOO_MANY_TREES)?;
+        let trees = self.estimated(self.n)?;
         let tariff = self.tariffs / self.heights;
         let [low, high] = self.species.tree(tariff as i64, d as i64, factor.into());
-        Ok(Row {
-            stratum,
-            species,
-            tariff: tariff as u8,
-            d: d as u16,
-            trees: trees as u32,
-            low: trees * low / 100,
-            high: if trees == 0 { 0 } else { trees * high / 100 + 1 },
-        })
+        (row.tariff, row.d) = (tariff as u8, d as u16);
+        row.gain(trees, trees * low / 100, trees * high / 100);
+        Ok(())
+    }
+
+    fn add_small(&self, row: &mut Row) -> Result<(), Refusal> {
+        let trees = self.estimated(self.small.into())?;
+        let biomass = trees * (2 * u64::from(self.carbon)) / 100;
+        row.gain(trees, biomass, biomass);
+        Ok(())
     }
 }
 
 impl Row {
+    /// Trees of one sort, with their low and their high: to the high one is added where there are any.
+    fn gain(&mut self, trees: u64, low: u64, high: u64) {
+        self.trees += trees as u32;
+        self.low += low;
+        self.high += high + u64::from(trees > 0);
+    }
+
     fn bytes(&self) -> [u8; ROW] {
         let mut bytes = [0; ROW];
         [bytes[0], bytes[1], bytes[2]] = [self.stratum, self.species, self.tariff];
@@ -259,6 +291,10 @@ impl Survey {
                 self.end()?;
                 Ok(at + 1)
             }
+            8 => {
+                self.small(operands(book, at)?)?;
+                Ok(at + 9)
+            }
             _ => Err(UNKNOWN_BYTE),
         }
     }
@@ -292,7 +328,8 @@ impl Survey {
         let same = |row: &Row| (row.stratum, row.species) == (stratum, id);
         decline(self.rows[..self.closed].iter().any(same), ALREADY_GIVEN)?;
         decline(self.closed == LINES, LIMIT)?;
-        self.open = Some(Line { stratum, id, species, p, q, n: 0, squares: 0, heights: 0, tariffs: 0 });
+        let line = Line { stratum, id, species, p, q, n: 0, squares: 0, heights: 0, tariffs: 0, carbon: 0, small: 0 };
+        self.open = Some(line);
         Ok(())
     }
 
@@ -302,6 +339,11 @@ impl Survey {
 
     fn height(&mut self, &[cm, high, low]: &[u8; 3]) -> Result<(), Refusal> {
         self.open.as_mut().ok_or(NO_LINE)?.height(cm, u16::from_be_bytes([high, low]))
+    }
+
+    fn small(&mut self, &[c0, c1, c2, c3, n0, n1, n2, n3]: &[u8; 8]) -> Result<(), Refusal> {
+        let [carbon, count] = [[c0, c1, c2, c3], [n0, n1, n2, n3]].map(u32::from_be_bytes);
+        self.open.as_mut().ok_or(NO_LINE)?.small(carbon, count)
     }
 
     fn close(&mut self) -> Result<(), Refusal> {

@@ -1,5 +1,6 @@
 //! What the program `replay` is to print for a stream of commands, by the book and the survey of these tests.
-use crate::book::{self, four_bytes, Command, END, SPECIES};
+use crate::book::{self, four_bytes, Command, CLOSE, END, SPECIES};
+use crate::met::UNMEASURED;
 use crate::survey::{Line, Species, Survey};
 use std::collections::BTreeMap;
 
@@ -11,7 +12,7 @@ pub enum Operation {
 }
 
 /// How often each answer was met: by the operation, the command's name ("" where there is no command) and the number of
-/// the refusal, 0 for none.
+/// the refusal, 0 for none. Applying tells the closing of a line without measured trees from the others.
 pub type Met = BTreeMap<(Operation, &'static str, u64), u64>;
 
 /// A line that is to be printed, and the places between which the commands stand that led to it.
@@ -67,11 +68,12 @@ impl Play {
         let name = book::name(Some(&command.byte));
         let mut buffer: [u8; 40] = std::array::from_fn(|i| (self.at + 7 * i) as u8);
         let written = command.write(&mut buffer, self.at % 48);
+        let unmeasured = command.byte == CLOSE && self.survey.unmeasured_is_open();
         let applied = self.survey.apply(command);
         let answers = [refusal(&written), refusal(&applied)];
         self.meets(Operation::Reading, name, 0);
         self.meets(Operation::Writing, name, answers[0]);
-        self.meets(Operation::Applying, name, answers[1]);
+        self.meets(Operation::Applying, if unmeasured { UNMEASURED } else { name }, answers[1]);
         let after = written.unwrap_or(0);
         let digests = [digest(|d| d.bytes(&buffer)), digest(|d| d.survey(&self.survey))];
         self.go_on(next, command.byte == END);
@@ -147,6 +149,7 @@ impl Digest {
         self.species(survey.lines.last().map(|line| &survey.species[&line.species]));
         self.numbers(line.areas);
         self.wide([line.n(), line.squares(), line.tariffs.len() as u64, line.tariff_sum()]);
+        self.wide(line.small.unwrap_or_default());
     }
 
     /// The species, each with two rows, then the factors and the rest.

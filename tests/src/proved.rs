@@ -111,6 +111,11 @@ pub fn row([trees, tariff, d, factor, gravity, crown, root]: [u64; 7]) -> Answer
     ends(ask, fieldbook::row(trees, tree).map(milligrams))
 }
 
+pub fn small_trees([number, carbon]: [u64; 2]) -> Answer {
+    let told = fieldbook::small_trees(number, carbon).map(milligrams);
+    ends(|answer| raw::small_trees(number, carbon, answer), told)
+}
+
 pub fn project([low, high, trees]: [u64; 3]) -> Answer {
     let sums = Range { low: Milligrams(low), high: Milligrams(high) };
     ends(|answer| raw::project(low, high, trees, answer), fieldbook::project(sums, trees).map(grams))

@@ -1,6 +1,7 @@
 //! The program `replay`, which reads, writes and applies commands by the proved library, against the book and the
 //! survey of these tests, line by line.
 use crate::book;
+use crate::met::UNMEASURED;
 use crate::play::Operation::{self, Applying, Reading, Writing};
 use crate::play::{Met, Play};
 use crate::program::{self, Hex};
@@ -14,10 +15,10 @@ use std::iter;
 /// How often a run is to meet each answer at least.
 const OFTEN: u64 = 100;
 
-/// What document 01 has each operation answer to each command: 0 for no refusal, and the numbers of the refusals.
-const NAMED: [(Operation, &[&str], &[u64]); 10] = [
+/// What the papers have each operation answer to each command: 0 for no refusal, and the numbers of the refusals.
+const NAMED: [(Operation, &[&str], &[u64]); 12] = [
     (Reading, &[""], &[1, 2]),
-    (Reading, &["species", "factor", "open", "measured", "height"], &[0, 3]),
+    (Reading, &book::WITH_OPERANDS, &[0, 3]),
     (Reading, &["close", "end"], &[0]),
     (Writing, &book::NAMES, &[0, 4]),
     (Applying, &["species", "factor"], &[0, 5, 6, 7]),
@@ -25,7 +26,9 @@ const NAMED: [(Operation, &[&str], &[u64]); 10] = [
     (Applying, &["measured"], &[0, 5, 10, 6, 11]),
     (Applying, &["height"], &[0, 5, 10, 6, 13, 11]),
     (Applying, &["close"], &[0, 5, 10, 12, 14, 15]),
+    (Applying, &[UNMEASURED], &[0, 15]),
     (Applying, &["end"], &[0, 5, 9]),
+    (Applying, &["small"], &[0, 5, 10, 6, 7]),
 ];
 
 pub fn run(report: &mut Report) {
@@ -40,7 +43,7 @@ pub fn run(report: &mut Report) {
             }
         });
     };
-    check("replay, books one after the other", (100..140).map(streams::books).collect());
+    check("replay, books one after the other", (100..148).map(streams::books).collect());
     check("replay, books with damaged bytes", (200..220).map(streams::damaged).collect());
     let mut random = Random::new(300);
     let noise = [2, 3, 10, 1000].map(|one_in| streams::noise(&mut random, one_in, streams::LONGEST));
@@ -80,9 +83,9 @@ fn compare(tally: &mut Tally, stream: &[u8], printed: &str, play: &Play) {
     tally.same("after the last line", printed.next(), None);
 }
 
-/// Every answer that document 01 names was met often, and no other.
+/// Every answer that the papers name was met often, and no other.
 fn answers(report: &mut Report, met: &Met) {
-    report.check("replay, every answer of document 01 was met, and no other", |tally| {
+    report.check("replay, every answer of documents 01 and 02 was met, and no other", |tally| {
         let mut others = met.clone();
         for (operation, names, numbers) in NAMED {
             for (name, number) in names.iter().flat_map(|name| numbers.iter().map(move |number| (name, number))) {

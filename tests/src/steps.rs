@@ -1,4 +1,5 @@
-//! Document 01's steps 1 to 7 and the project's figures, written from its text and the protocol alone.
+//! Document 01's steps 1 to 7, document 02's small trees and the project's figures, written from their text and the
+//! protocol alone.
 //! Every operand is checked in its range first; Err holds the number of the refusal.
 use crate::{powers, protocol};
 
@@ -137,6 +138,15 @@ pub fn row([trees, tariff, d, factor, gravity, crown_group, root_group]: [u64; 7
     let (low, high) = tree([tariff, d, factor, gravity, crown_group, root_group])?;
     let low = div(n * i128::from(low), 100);
     let high = if n == 0 { 0 } else { div(n * i128::from(high), 100) + 1 };
+    Ok((figure(low), figure(high)))
+}
+
+/// What small trees add to a row: so many of them in hundredths, and the carbon of one in mg, half of its biomass.
+pub fn small_trees([number, carbon]: [u64; 2]) -> Ends {
+    let number = within(0, number, 100_000_000)?;
+    let carbon = within(1, carbon, u32::MAX.into())?;
+    let low = div(number * (2 * carbon), 100);
+    let high = if number == 0 { low } else { low + 1 };
     Ok((figure(low), figure(high)))
 }
 

@@ -1,6 +1,6 @@
 //! Streams of commands by chance, the same in every run, none longer than the program `replay` reads.
 use crate::author::{Author, CM, FOUR_BYTES};
-use crate::book::{four_bytes, CLOSE, END, FACTOR, HEIGHT, MEASURED, OPEN, SPECIES};
+use crate::book::{four_bytes, CLOSE, END, FACTOR, HEIGHT, MEASURED, NAMES, OPEN, SMALL, SPECIES};
 use crate::protocol;
 use crate::random::Random;
 
@@ -45,7 +45,7 @@ pub fn damage(random: &mut Random, stream: &mut Vec<u8>) {
 /// Bytes by chance: one in so many is the byte of a command, each other one any byte.
 pub fn noise(random: &mut Random, one_in: u64, length: usize) -> Vec<u8> {
     let byte = |_| match random.between(1, one_in) {
-        1 => random.between(1, 7) as u8,
+        1 => random.between(1, NAMES.len() as u64) as u8,
         _ => random.any() as u8,
     };
     (0..length).map(byte).collect()
@@ -115,7 +115,7 @@ impl Author {
             1 => self.many_height_trees(),
             2..=5 => self.many_lines(),
             6..=9 => self.many_measured_trees(),
-            10..=19 => self.many_estimated_trees(),
+            10..=24 => self.many_estimated_trees(),
             _ => self.book(),
         }
         self.end();
@@ -158,6 +158,9 @@ impl Author {
         let stratum = self.random.between(0, 4);
         let [p, q] = self.areas();
         self.say(OPEN, &[stratum, id, p, q]);
+        let small = self.one_of(&[0, 0, 1, 1, 2]);
+        let early = self.random.between(0, small);
+        self.small_trees(early);
         for _ in 0..self.random.between(0, 5) {
             let class = self.random.between(classes.0, classes.1);
             let count = self.random.of_any_size(65_534) + 1;
@@ -166,6 +169,7 @@ impl Author {
         for _ in 0..self.random.between(0, 3) {
             self.height();
         }
+        self.small_trees(small - early);
         self.say(CLOSE, &[]);
         if self.one_in(3) {
             self.height();
@@ -177,6 +181,14 @@ impl Author {
         let cm = self.random.between(10, 100);
         let tenths = self.random.between(1, 250);
         self.say(HEIGHT, &[cm, tenths]);
+    }
+
+    /// So many commands of small trees. A line takes one.
+    fn small_trees(&mut self, commands: u64) {
+        for _ in 0..commands {
+            let operands = self.small_operands();
+            self.say(SMALL, &operands);
+        }
     }
 
     /// More lines than 32, most of them without trees.
@@ -192,9 +204,12 @@ impl Author {
         self.put(OPEN, &[255, id, 1, 1]);
     }
 
-    /// A line without trees, or with four.
+    /// A line without measured trees, or with four; some have small trees.
     fn line_of_oaks(&mut self, opening: &[u64]) {
         self.put(OPEN, opening);
+        if self.one_in(10) {
+            self.put(SMALL, &[1_575_600, 289]);
+        }
         if self.one_in(10) {
             self.put(MEASURED, &[60, 4]);
             self.put(HEIGHT, &[60, 120]);
@@ -255,16 +270,22 @@ impl Author {
         self.put(CLOSE, &[]);
     }
 
-    /// An estimate just under 1,000,000 trees, at it, or just over.
+    /// An estimate just under 1,000,000 trees, at it, or just over: of measured trees, of small ones, or of both.
     fn many_estimated_trees(&mut self) {
         let id = self.oak();
         let n = self.random.of_any_size(65_534) + 1;
         let q = self.random.between(1, 100 * n);
         let p = 1_000_000 * q / n + self.random.between(0, 2);
+        let [measured, small] = self.one_of(&[[n, 0], [0, n], [1, n], [n, 1], [n, n]]);
         self.put(FACTOR, &[30, 150]);
         self.put(OPEN, &[9, id, p, q]);
-        self.put(HEIGHT, &[20, 100]);
-        self.put(MEASURED, &[30, n]);
+        if measured > 0 {
+            self.put(HEIGHT, &[20, 100]);
+            self.put(MEASURED, &[30, measured]);
+        }
+        if small > 0 {
+            self.put(SMALL, &[1_575_600, small]);
+        }
         self.put(CLOSE, &[]);
     }
 }

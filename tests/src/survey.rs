@@ -1,4 +1,4 @@
-//! Document 01's survey once more: what a book has given so far, and what applying a command declines.
+//! The survey of documents 01 and 02 once more: what a book has given so far, and what applying a command declines.
 //! Err holds the number of the refusal, and then the survey is as it was.
 use crate::book::{self, Command};
 use crate::steps;
@@ -24,7 +24,7 @@ pub struct Species {
     pub constants: [i32; 4],
 }
 
-/// A line's T, d, N, low and high.
+/// A line's T, d, N, low and high. N is the sum of the measured number and the small one.
 pub type Row = [u64; 5];
 
 #[derive(Default)]
@@ -36,6 +36,8 @@ pub struct Line {
     pub measured: Vec<(u64, u64)>,
     /// The single tariff of each height tree.
     pub tariffs: Vec<u64>,
+    /// The carbon of one small tree in mg, and their count.
+    pub small: Option<[u64; 2]>,
     /// All 0 until the line is closed.
     pub row: Row,
 }
@@ -76,12 +78,24 @@ impl Line {
     pub fn tariff_sum(&self) -> u64 {
         self.tariffs.iter().sum()
     }
+
+    /// Step 3's number of the measured trees, and of the small ones.
+    pub fn estimates(&self) -> [u64; 2] {
+        let [p, q] = self.areas;
+        let small = self.small.map_or(0, |[_, count]| count);
+        [self.n(), small].map(|count| figure(steps::trees([count, p, q])))
+    }
 }
 
 impl Survey {
     /// The lines that are closed, in closing order.
     pub fn closed(&self) -> &[Line] {
         &self.lines[..self.lines.len() - usize::from(self.open)]
+    }
+
+    /// Whether a line is open that has no measured trees.
+    pub fn unmeasured_is_open(&self) -> bool {
+        self.open && self.lines.last().is_some_and(|line| line.n() == 0)
     }
 
     pub fn apply(&mut self, command: &Command) -> Applied {
@@ -97,6 +111,7 @@ impl Survey {
             (book::HEIGHT, &[cm, tenths]) => self.height(cm, tenths),
             (book::CLOSE, &[]) => self.close(),
             (book::END, &[]) => self.end(),
+            (book::SMALL, &[carbon, count]) => self.small_trees(carbon, count),
             _ => unreachable!("reading gives no other command"),
         }
     }
@@ -155,6 +170,15 @@ impl Survey {
         Ok(())
     }
 
+    fn small_trees(&mut self, carbon: u64, count: u64) -> Applied {
+        let line = self.open_line()?;
+        within(1, carbon, u32::MAX.into())?;
+        within(1, count, 1_000_000)?;
+        decline(line.small.is_some(), ALREADY_GIVEN)?;
+        line.small = Some([carbon, count]);
+        Ok(())
+    }
+
     fn close(&mut self) -> Applied {
         self.open_line()?;
         let row = self.row(self.lines.last().expect("the open line"))?;
@@ -163,7 +187,18 @@ impl Survey {
         Ok(())
     }
 
+    /// The measured part, and then the small trees: each sort is divided by itself.
     fn row(&self, line: &Line) -> Result<Row, u64> {
+        let [tariff, d, measured, low, high] = self.measured_row(line)?;
+        let [_, small] = line.estimates();
+        decline(small > 100_000_000, TOO_MANY_TREES)?;
+        let part = line.small.map(|[carbon, _]| figure(steps::small_trees([small, carbon])));
+        let (small_low, small_high) = part.unwrap_or_default();
+        Ok([tariff, d, measured + small, low + small_low, high + small_high])
+    }
+
+    /// The row that document 01 has, of the measured trees alone.
+    fn measured_row(&self, line: &Line) -> Result<Row, u64> {
         let n = line.n();
         if n == 0 {
             return Ok(Row::default());
@@ -171,8 +206,7 @@ impl Survey {
         decline(line.tariffs.is_empty(), NO_HEIGHT_TREE)?;
         let d = figure(steps::mean([n, line.squares()]));
         let &factor = self.factors.get(&(d / 10)).ok_or(NO_FACTOR)?;
-        let [p, q] = line.areas;
-        let trees = figure(steps::trees([n, p, q]));
+        let [trees, _] = line.estimates();
         decline(trees > 100_000_000, TOO_MANY_TREES)?;
         let tariff = figure(steps::line_tariff([line.tariff_sum(), line.tariffs.len() as u64]));
         let [crown, root, gravity] = self.species[&line.species].parts;

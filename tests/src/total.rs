@@ -1,4 +1,4 @@
-//! Document 01's totalling of a book into a sheet once more, on the book and the survey of these tests.
+//! Totalling a book into a sheet once more, on the book and the survey of these tests.
 use crate::book;
 use crate::steps;
 use crate::survey::{Line, Survey, ENDED};

@@ -1,13 +1,14 @@
 //! Totalling by the proved library, as it is called from other languages, against both totallings of these tests: every
 //! answer and every byte of the sheets.
 use crate::author::Author;
+use crate::books::Named;
 use crate::exact::Exact;
 use crate::library::{self, Totalled, MARGIN};
+use crate::met::{self, NAMED};
 use crate::program::{first_difference, Hex};
 use crate::report::{Report, Tally};
-use crate::total::{total, Refused, Totals, LEAST_SHEET};
+use crate::total::{row_numbers, total, Refused, Totals, LEAST_SHEET, ROW};
 use crate::{books, cores, plain};
-use std::collections::BTreeMap;
 
 /// How many bytes a sheet has at most.
 const LONGEST_SHEET: u64 = 10_000;
@@ -18,9 +19,6 @@ const CHUNK: usize = 1_000;
 /// How many books a run is to total at least, and how often it is to meet each refusal.
 const MANY: u64 = 24_000;
 const OFTEN: u64 = 100;
-
-/// The refusals that document 01 has for totalling: all but 4, which is for writing.
-pub const NAMED: [u64; 15] = [1, 2, 3, 5, 6, 7, 8, 9, 10, 11, 12, 13, 14, 15, 16];
 
 /// A book, and the sheet that it is totalled into: its length, and the seed of the bytes that it holds before.
 struct Case {
@@ -78,24 +76,30 @@ fn numbers(totalled: &Result<Totals, Refused>) -> Totalled {
     }
 }
 
-/// How often each refusal was met, 0 for none, and how many accepted books have estimated trees.
+/// What was met: each answer, and how many accepted books have estimated trees, a line of small trees alone, and a line
+/// of both sorts.
 #[derive(Default)]
 struct Met {
-    refusals: BTreeMap<u64, u64>,
+    answers: met::Met,
     with_trees: u64,
+    small_alone: u64,
+    both_sorts: u64,
 }
 
 pub fn run(report: &mut Report) {
     listing(report);
+    small_trees(report);
     opened_again(report);
     let mut met = Met::default();
     let mut check = |name: &str, cases: Vec<Case>| {
         report.check(&format!("totals, {name}"), |tally| compare(tally, &cases, &mut met));
     };
-    check("accepted books", cases(400, (1_000_000..1_020_000).map(books::accepted), None));
+    check("accepted books", cases(400, (1_000_000..1_024_000).map(books::accepted), None));
     check("damaged books", cases(401, (2_000_000..2_020_000).map(books::damaged), Some(30)));
     check("bytes and commands by chance", cases(402, (3_000_000..3_008_000).map(books::by_chance), Some(12)));
     check("books at the limits", cases(403, books::edges(0..150).into_iter(), Some(60)));
+    let small_trees = books::edges_of_small_trees(0..150).into_iter();
+    check("small trees at their limits", cases(408, small_trees, Some(60)));
     check("bytes after the end", cases(404, (500..504).flat_map(books::after_the_end), Some(60)));
     check("books cut short at every length", cases(405, (600..620).flat_map(books::cut_short), Some(60)));
     check("sheets of every length", sheets());
@@ -131,7 +135,7 @@ fn compare(tally: &mut Tally, cases: &[Case], met: &mut Met) {
         for (case, answer, plain, (expected, totalled)) in all {
             case.compare(tally, &answer, "total.rs", &expected);
             case.compare(tally, &answer, "plain.rs", &plain);
-            met.add(&totalled);
+            met.add(&case.book, &totalled);
             // Where only one of the two accepts, the comparison above has said so.
             let (number, [_, _, low, high, _]) = answer.0;
             if let (0, Ok(totals)) = (number, totalled) {
@@ -142,10 +146,14 @@ fn compare(tally: &mut Tally, cases: &[Case], met: &mut Met) {
 }
 
 impl Met {
-    fn add(&mut self, totalled: &Result<Totals, Refused>) {
-        let number = totalled.as_ref().map_or_else(|refused| refused.number, |_| 0);
-        *self.refusals.entry(number).or_default() += 1;
-        self.with_trees += u64::from(totalled.as_ref().is_ok_and(|totals| totals.trees > 0));
+    fn add(&mut self, book: &[u8], totalled: &Result<Totals, Refused>) {
+        let (number, [.., at]) = numbers(totalled);
+        self.answers.count(book, number, at as usize);
+        let Ok(Totals { survey, trees, .. }) = totalled else { return };
+        let some_line = |sorts: [bool; 2]| survey.lines.iter().any(|line| line.estimates().map(|n| n > 0) == sorts);
+        self.with_trees += u64::from(*trees > 0);
+        self.small_alone += u64::from(some_line([false, true]));
+        self.both_sorts += u64::from(some_line([true, true]));
     }
 }
 
@@ -153,28 +161,36 @@ impl Met {
 fn exact(Totals { survey, .. }: &Totals) -> Exact {
     let mut exact = Exact::new();
     for line in &survey.lines {
-        let [tariff, d, trees, ..] = line.row;
-        if trees > 0 {
+        let [measured, small] = line.estimates();
+        if measured > 0 {
+            let [tariff, d, ..] = line.row;
             let [crown, root, gravity] = survey.species[&line.species].parts;
-            exact.add(trees, [tariff, d, survey.factors[&(d / 10)], gravity, crown, root]);
+            exact.add(measured, [tariff, d, survey.factors[&(d / 10)], gravity, crown, root]);
+        }
+        if let Some([carbon, _]) = line.small {
+            exact.add_small(small, carbon);
         }
     }
     exact
 }
 
-/// Every refusal of totalling was met often and no other, and a third of all books have estimated trees.
+/// Every refusal of totalling was met often, of each command that can get it, and no other. A third of all books have
+/// estimated trees, and one in ten has a line of small trees alone, and one of both sorts.
 fn answers_met(report: &mut Report, met: &Met) {
-    report.check("totals, every refusal of document 01 was met, and no other", |tally| {
-        let mut others = met.refusals.clone();
-        let accepted = others.remove(&0).unwrap_or(0);
-        for number in NAMED {
-            let times = others.remove(&number).unwrap_or(0);
-            tally.holds(times >= OFTEN, (number, times));
+    report.check("totals, every refusal of documents 01 and 02 was met, and no other", |tally| {
+        let Met { answers, with_trees, small_alone, both_sorts } = met;
+        for (number, names) in NAMED {
+            let times: Vec<_> = names.iter().map(|name| answers.times(number, name)).collect();
+            tally.holds(times.iter().sum::<u64>() >= OFTEN && !times.contains(&0), (number, names, times));
         }
-        tally.same("other refusals", others, BTreeMap::new());
-        let all = met.refusals.values().sum::<u64>();
-        tally.holds(all >= MANY && 3 * met.with_trees >= all, (all, accepted, met.with_trees));
-        tally.remark = format!(", of {all} books, {accepted} accepted, {} with estimated trees", met.with_trees);
+        tally.same("other answers", answers.others(), vec![]);
+        let (all, accepted) = (answers.books(), answers.accepted());
+        tally.holds(all >= MANY && 3 * with_trees >= all, (all, accepted, with_trees));
+        tally.holds(10 * small_alone >= all && 10 * both_sorts >= all, (all, small_alone, both_sorts));
+        tally.remark = format!(
+            ", of {all} books, {accepted} accepted, {with_trees} with estimated trees, {small_alone} with a line of \
+             small trees alone, {both_sorts} with one of both sorts"
+        );
     });
 }
 
@@ -188,6 +204,27 @@ fn listing(report: &mut Report) {
         tally.same("too short a sheet", (answer, Hex(&bytes)), ((16, [0; 5]), Hex(&short.noise())));
         compare(tally, &cases, &mut Met::default());
     });
+}
+
+/// Books of small trees, each with its name and with what it comes to.
+fn small_trees(report: &mut Report) {
+    report.check("totals, small trees that are worked out by hand", |tally| {
+        let named = books::small_trees();
+        let cases = cases(407, named.iter().map(|named| named.book.clone()), None);
+        for (case, Named { name, answer, last_row, .. }) in cases.iter().zip(&named) {
+            let (answered, bytes) = case.library();
+            tally.same((name, Hex(&case.book)), answered, *answer);
+            tally.same((name, Hex(&case.book), "the last row"), last_row_of(&answered, &bytes), *last_row);
+        }
+        compare(tally, &cases, &mut Met::default());
+    });
+}
+
+/// T, d, N, low and high of the last row in a sheet, which has bytes on both sides.
+fn last_row_of((_, [rows, ..]): &Totalled, bytes: &[u8]) -> Option<[u64; 5]> {
+    let from = MARGIN + ROW * (*rows as usize).checked_sub(1)?;
+    let [_, _, figures @ ..] = row_numbers(&bytes[from..from + ROW]);
+    Some(figures)
 }
 
 /// A line that was opened is refused with 7, whichever it is and however many there are; and a 33rd with 11.

@@ -71,6 +71,7 @@ const LEFT_OUT: [&str; 8] = [
 
 pub fn run(report: &mut Report) {
     printed(report);
+    small_trees(report);
     marked(report);
     for what in LEFT_OUT {
         println!("left out: {what}");
@@ -104,6 +105,12 @@ fn tonnes(tally: &mut Tally, ask: fn([u64; 2]) -> Answer, operands: [u64; 2], pr
     }
     let mg = ends[0];
     tally.remark += &format!("; {}.{:09} t, printed {print}", mg / 1_000_000_000, mg % 1_000_000_000);
+}
+
+/// The carbon of small trees, which is half of their biomass: from the high half a mg is dropped.
+fn small_carbon(operands: [u64; 2]) -> Answer {
+    let [low, high] = proved::small_trees(operands).accepted();
+    Ok((low / 2, high / 2)).into()
 }
 
 fn printed(report: &mut Report) {
@@ -156,6 +163,28 @@ fn printed(report: &mut Report) {
         report.check(&format!("{name}, crown"), |tally| tonnes(tally, proved::crown, [crown, d], crown_print));
         report.check(&format!("{name}, root"), |tally| tonnes(tally, proved::root, [root, d], root_print));
     }
+}
+
+/// Appendix 6, Rob's Wood: the strata of small trees, each with the carbon of one tree in mg as a book has it.
+fn small_trees(report: &mut Report) {
+    let (sapling, thousand_seedlings) = (decimal("0.0015756", 9) as u64, decimal("0.0046951", 9) as u64);
+    let seedling = (thousand_seedlings + 500) / 1_000;
+    for (name, counted, trees, carbon, print) in [
+        ("stratum I: 69360 saplings", [289, 240_000, 1_000], 6_936_000, sapling, "109.28"),
+        ("stratum III: 103700 seedlings", [305, 340_000, 1_000], 10_370_000, seedling, "0.487"),
+    ] {
+        report.check(&format!("Appendix 6, {name}"), |tally| {
+            figure(tally, proved::trees, steps::trees, counted, Ok(trees));
+            tonnes(tally, small_carbon, [trees, carbon], print);
+        });
+    }
+    report.check("Appendix 6: a sapling is 1,575,600 mg of carbon, and a seedling 4,695 mg", |tally| {
+        tally.same("the printed tonnes in mg", [sapling, seedling], [1_575_600, 4_695]);
+        let biomass = Ok((218_567_232_000, 218_567_232_001));
+        figure(tally, proved::small_trees, steps::small_trees, [6_936_000, sapling], biomass);
+        let biomass = Ok((973_743_000, 973_743_001));
+        figure(tally, proved::small_trees, steps::small_trees, [10_370_000, seedling], biomass);
+    });
 }
 
 fn marked(report: &mut Report) {

@@ -13,7 +13,7 @@ pub const SHEET: usize = 32 * ROW;
 pub struct Totals {
     /// How many rows stand in the sheet.
     pub rows: usize,
-    /// The estimated trees of all rows, in hundredths.
+    /// The estimated trees of all rows, measured and small, in hundredths.
     pub trees: u64,
     pub carbon: Range<Grams>,
 }
@@ -23,10 +23,11 @@ pub struct Totals {
 pub struct Row {
     pub stratum: u8,
     pub species: u8,
+    /// 0 where no tree was measured; so is d.
     pub tariff: u8,
-    /// The mean diameter, in tenths of a cm.
+    /// The mean diameter of the measured trees, in tenths of a cm.
     pub d: u16,
-    /// The estimated trees, in hundredths.
+    /// The estimated trees, measured and small, in hundredths.
     pub trees: u32,
     pub biomass: Range<Milligrams>,
 }

@@ -49,6 +49,9 @@ unsafe extern "C" {
         answer: &mut [u64; 2],
     ) -> u8;
 
+    #[link_name = "fieldbook_small_trees"]
+    pub safe fn small_trees(number: u64, carbon: u64, answer: &mut [u64; 2]) -> u8;
+
     #[link_name = "fieldbook_project"]
     pub safe fn project(low: u64, high: u64, trees: u64, answer: &mut [u64; 2]) -> u8;
 

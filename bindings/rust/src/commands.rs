@@ -23,6 +23,8 @@ pub enum Command {
     Close,
     /// Ends the book.
     End,
+    /// The carbon of one small tree in mg, and how many.
+    Small { carbon: u32, count: u32 },
 }
 
 #[derive(Clone, Copy, PartialEq, Eq, Debug)]
@@ -52,6 +54,7 @@ impl Command {
             Command::Height { cm, tenths } => with_zeros([5, cm.into(), tenths.into()]),
             Command::Close => with_zeros([6]),
             Command::End => with_zeros([7]),
+            Command::Small { carbon, count } => with_zeros([8, carbon.into(), count.into()]),
         }
     }
 
@@ -68,6 +71,7 @@ impl Command {
             5 => Command::Height { cm: a as u8, tenths: b as u16 },
             6 => Command::Close,
             7 => Command::End,
+            8 => Command::Small { carbon: a as u32, count: b as u32 },
             _ => unreachable!("reading answers no other byte"),
         }
     }

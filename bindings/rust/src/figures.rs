@@ -71,7 +71,7 @@ pub fn mean(n: u64, squares: u64) -> Result<u64, Refusal> {
     count(|answer| boundary::mean(n, squares, answer))
 }
 
-/// The estimated trees in hundredths: measured trees, up to 1,000,000; p and q, 1 to 100,000,000.
+/// The estimated trees in hundredths: measured trees or small ones, up to 1,000,000; p and q, 1 to 100,000,000.
 pub fn trees(n: u64, p: u64, q: u64) -> Result<u64, Refusal> {
     count(|answer| boundary::trees(n, p, q, answer))
 }
@@ -97,10 +97,27 @@ pub fn tree(tree: AverageTree) -> Result<Range<Milligrams>, Refusal> {
     range(Milligrams, |answer| boundary::tree(tariff, d, factor, gravity, crown, root, answer))
 }
 
-/// A row: estimated trees in hundredths, up to 100,000,000, and the tree that stands for them.
+/// The measured trees of a row: estimated trees in hundredths, up to 100,000,000, and the tree that stands for them.
 pub fn row(trees: u64, tree: AverageTree) -> Result<Range<Milligrams>, Refusal> {
     let AverageTree { tariff, d, factor, gravity, crown, root } = tree;
     range(Milligrams, |answer| boundary::row(trees, tariff, d, factor, gravity, crown, root, answer))
+}
+
+/// The small trees of a row: so many of them, estimated, in hundredths, up to 100,000,000, and the carbon of one in mg,
+/// 1 to 4,294,967,295. Carbon is half of biomass.
+///
+/// ```
+/// use fieldbook::{small_trees, trees, Milligrams, Refusal};
+///
+/// // 289 saplings in plots of 1,000 square metres, of 240,000 square metres, each of 0.0015756 t of carbon.
+/// let saplings = small_trees(trees(289, 240_000, 1_000)?, 1_575_600)?;
+/// assert_eq!(saplings.low, Milligrams(218_567_232_000));
+/// assert_eq!(saplings.high, Milligrams(218_567_232_001));
+/// assert_eq!(small_trees(100, 0), Err(Refusal::OPERAND));
+/// # Ok::<(), Refusal>(())
+/// ```
+pub fn small_trees(number: u64, carbon: u64) -> Result<Range<Milligrams>, Refusal> {
+    range(Milligrams, |answer| boundary::small_trees(number, carbon, answer))
 }
 
 /// A project: the sums of its rows' lows and highs, each up to 1,676,976,733,973,595,601, and of their trees.

@@ -1,5 +1,5 @@
-//! Woodland carbon from a field book: a book of measured trees in, carbon dioxide out, by the proved library. The
-//! repository's README says how a book is coded and what the figures mean.
+//! Woodland carbon from a field book: a book of measured and small trees in, carbon dioxide out, by the proved library.
+//! The repository's README says how a book is coded and what the figures mean.
 //!
 //! ```
 //! use fieldbook::{total, write, Command, Species, SHEET};
@@ -35,8 +35,8 @@ mod refusal;
 pub use books::{sheet_row, total, Row, Totals, ROW, SHEET};
 pub use commands::{read, write, Command, Species};
 pub use figures::{
-    crown, line_tariff, mean, project, root, row, single_tariff, stem, tree, trees, AverageTree, Grams, Milligrams,
-    Range,
+    crown, line_tariff, mean, project, root, row, single_tariff, small_trees, stem, tree, trees, AverageTree, Grams,
+    Milligrams, Range,
 };
 pub use refusal::{Refusal, Refused};
 
@@ -47,6 +47,7 @@ pub const VERSION: &str = env!("CARGO_PKG_VERSION");
 /// 0 or the number of a refusal back. After a refusal the lent numbers are 0, unless something else is said.
 pub mod raw {
     pub use crate::boundary::{
-        crown, line_tariff, mean, project, read, root, row, sheet_row, single_tariff, stem, total, tree, trees, write,
+        crown, line_tariff, mean, project, read, root, row, sheet_row, single_tariff, small_trees, stem, total, tree,
+        trees, write,
     };
 }

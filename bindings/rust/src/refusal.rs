@@ -40,7 +40,8 @@ impl Refusal {
             Refusal::ENDED => "the book has ended: bytes after 07",
             Refusal::OPERAND => "an operand is outside its range",
             Refusal::ALREADY_GIVEN => {
-                "the species or factor is already given, or a line of this stratum and species is already opened"
+                "the species or factor is already given, a line of this stratum and species is already opened, or the \
+                 line has its small trees already"
             }
             Refusal::UNDECLARED => "the species is not declared",
             Refusal::LINE_OPEN => "a line is open",
@@ -51,7 +52,7 @@ impl Refusal {
             Refusal::NO_HEIGHT_TREE => "no height tree",
             Refusal::TARIFF => "the tariff is outside 1 to 50",
             Refusal::NO_FACTOR => "no factor for the line's mean diameter",
-            Refusal::TOO_MANY_TREES => "more than 1,000,000 estimated trees",
+            Refusal::TOO_MANY_TREES => "more than 1,000,000 estimated trees of one sort, measured or small",
             Refusal::SHORT_SHEET => "the sheet has fewer than 800 bytes",
             Refusal(_) => "no refusal has this number",
         }

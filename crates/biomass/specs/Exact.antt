@@ -73,6 +73,10 @@ exactTree t crownPower rootPower =
 abbrev pub exactRow : ℕ → AverageTree → Given → Given → Fraction
 exactRow N t crownPower rootPower = whole (pos N) over 100 ⊗ exactTree t crownPower rootPower
 
+-- "the exact value counts number/100 times twice the carbon, undropped" (document 02, Q-1)
+abbrev pub exactSmall : ℕ → ℕ → Fraction
+exactSmall number carbon = whole (pos number) over 100 ⊗ whole (pos (2 * carbon))
+
 -- "a fraction of its own for each power that its tree uses": both fractions are not below the powers, or not above them
 pub record NotBelow (t : AverageTree) (crownPower rootPower : Given) : Type 0 where
   pub on-crown : t .d ≤ crownLimit → NotBelowCrown (t .d) crownPower

@@ -13,6 +13,7 @@
 --     Declines: unless-declines, then-declines    and what is made of checks and of other reports, with their numbers alone
 --     Fraction                                sums, shares and the order of fractions
 --     Project: none-of-equal, project-gap, project-not-over   what demand 3 says of the project's two figures, clause by clause
+--     SmallTrees: small-not-under, small-not-over, small-bounds   the exact biomass of small trees lies from their low to their high, which are 1 mg apart at most
 --     Marked: marked-hold                     document 01's marked lines (a) to (i)
 
 -- numbers: div; differences of naturals
@@ -37,5 +38,7 @@ pub mod Fraction
 pub mod StemExact
 pub mod Exact
 pub mod Project
+-- small trees (document 02, Q-1)
+pub mod SmallTrees
 -- document 01's marked lines
 pub mod Marked

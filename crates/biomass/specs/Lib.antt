@@ -1,4 +1,5 @@
--- The law of this crate, in the order of document 01: what each figure is. Each definition stands under the sentence that it states.
+-- The law of this crate, in the order of document 01: what each figure is. Each definition stands under the sentence that it states, of document 01 or, where it
+-- says so, of document 02. "The papers", here and in every other crate, are document 01 with what the requests of document 02 have changed of it: so far Q-1.
 --
 -- HOW TO READ specs/, here and in every other crate. A file says what things are; a line that begins with two dashes is a remark. The signs:
 --
@@ -60,6 +61,8 @@ pub mod Stem
 pub mod Crown
 pub mod Root
 pub mod Tree
+-- document 02, Q-1: small trees
+pub mod SmallTrees
 pub mod Project
 -- the exact value
 pub mod Fraction

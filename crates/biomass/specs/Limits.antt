@@ -15,3 +15,10 @@ mostEstimated = 100000000
 -- "p (4), q (4), both 1 to 100,000,000"
 abbrev pub greatestArea : ℕ
 greatestArea = 100000000
+
+-- "the carbon of one small tree in mg (4 bytes, 1 and up) and a count (4 bytes, 1 to 1,000,000)" (document 02, Q-1)
+abbrev pub mostSmall : ℕ
+mostSmall = 1000000
+
+abbrev pub greatestCarbon : ℕ
+greatestCarbon = 4294967295

@@ -5,7 +5,7 @@ use lib.IntN.{ℤ, pos, negsuc}
 use Rattle.codec.specs.Bytes.{bytes, unsigned}
 use Rattle.codec.specs.declared.command.Species as Declared
 use Rattle.codec.specs.declared.command.Command.{Command}
-use Rattle.codec.specs.declared.command.Command.the-variants.{Species, Factor, Open, Measured, Height, Close, End}
+use Rattle.codec.specs.declared.command.Command.the-variants.{Species, Factor, Open, Measured, Height, Close, End, Small}
 
 abbrev pub encode : Command → List ℕ
 -- "01 species: id (1 byte, 0 to 15), crown group (1, 0 to 7), root group (1, 0 to 5), specific gravity in hundredths (1, 1 to 100), c1 c2 c3 c4 (4 each, signed)"
@@ -23,6 +23,8 @@ encode (Height cm tenths) = 5 ∷ cm ∷ bytes 2 tenths
 -- "06 close the line. 07 end of the book."
 encode Close = 6 ∷ []
 encode End = 7 ∷ []
+-- "Command 08 .. gives the carbon of one small tree in mg (4 bytes, 1 and up) and a count (4 bytes, 1 to 1,000,000)" (document 02, Q-1)
+encode (Small carbon count) = 8 ∷ (bytes 4 carbon ++ bytes 4 count)
 
 -- A command whose operands fit the bytes that they are written in. Those of the code's types all do: `store_command` of src/writing.rt promises it
 abbrev pub FitsFour : ℤ → Type 0
@@ -46,3 +48,4 @@ Fits (Measured class count) = (class < 256) × (count < 65536)
 Fits (Height cm tenths) = (cm < 256) × (tenths < 65536)
 Fits Close = Unit
 Fits End = Unit
+Fits (Small carbon count) = (carbon < 4294967296) × (count < 4294967296)

@@ -9,7 +9,7 @@ use Rattle.biomass.specs.Report.{Report, refused, gives, unless}
 use Rattle.codec.specs.Refusal.{number}
 use Rattle.codec.specs.Bytes.{byte, numberAt, signed}
 use Rattle.codec.specs.declared.command.Command.{Command}
-use Rattle.codec.specs.declared.command.Command.the-variants.{Species, Factor, Open, Measured, Height, Close, End}
+use Rattle.codec.specs.declared.command.Command.the-variants.{Species, Factor, Open, Measured, Height, Close, End, Small}
 use Rattle.codec.specs.declared.reading.Reading.{Reading}
 
 -- what the code answers
@@ -47,6 +47,9 @@ measuredFrom s i = withOperands s i 3 (Measured (byte s i) (numberAt 2 s (i + 1)
 unfoldable pub heightFrom : List ℕ → ℕ → Report (Command × ℕ)
 heightFrom s i = withOperands s i 3 (Height (byte s i) (numberAt 2 s (i + 1)))
 
+unfoldable pub smallFrom : List ℕ → ℕ → Report (Command × ℕ)
+smallFrom s i = withOperands s i 8 (Small (numberAt 4 s i) (numberAt 4 s (i + 4)))
+
 -- by the command's byte: "2 unknown byte"
 unfoldable pub commandFrom : ℕ → List ℕ → ℕ → Report (Command × ℕ)
 commandFrom b s i =
@@ -57,7 +60,8 @@ commandFrom b s i =
     (cond (eqb b 5) (heightFrom s i)
     (cond (eqb b 6) (gives (Close, i))
     (cond (eqb b 7) (gives (End, i))
-    (refused 2)))))))
+    (cond (eqb b 8) (smallFrom s i)
+    (refused 2))))))))
 
 -- "1 the place is at or past the end"
 unfoldable pub read : List ℕ → ℕ → Report (Command × ℕ)

@@ -11,6 +11,7 @@ number CutShort = 3
 -- "Writing one command at a place: 4 too few bytes from there."
 number NoRoom = 4
 -- "Applying a command to a survey: 5 the book has ended, first of all." "6 operand outside its range; 7 already given."
+-- "7 where the line has one already" (document 02, Q-1)
 number Ended = 5
 number Operand = 6
 number AlreadyGiven = 7

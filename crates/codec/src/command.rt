@@ -1,4 +1,4 @@
-// The seven commands of a field book, each with its operands as they are written.
+// The eight commands of a field book, each with its operands as they are written.
 
 // What a species is declared with.
 pub struct Species {
@@ -44,4 +44,9 @@ pub enum Command {
     Close,
     // 07
     End,
+    // 08: the carbon of one small tree in mg, and how many trees.
+    Small {
+        carbon: u32,
+        count: u32,
+    },
 }

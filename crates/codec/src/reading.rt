@@ -9,7 +9,7 @@ ghost use mathlib.Core.Path.{_≡_};
 ghost use Prim.Native.Nat.{_≤_};
 ghost use lib.ListN.{length};
 ghost use Rattle.codec.specs.RoundTrip.{WritesBack};
-ghost use Rattle.codec.specs.Reading.{reading, read, placeAfter, speciesFrom, factorFrom, openFrom, measuredFrom, heightFrom};
+ghost use Rattle.codec.specs.Reading.{reading, read, placeAfter, speciesFrom, factorFrom, openFrom, measuredFrom, heightFrom, smallFrom};
 
 // The command and the place after it, or why there is none.
 pub enum Reading {
@@ -94,6 +94,20 @@ fn read_height(book: &[u8], from: usize) -> Reading
     Reading::Is(command, from + 3)
 }
 
+fn read_small(book: &[u8], from: usize) -> Reading
+    requires { ⌜ from ≤ length (now book) ⌝ }
+    ensures { λ r. ⌜ reading r ≡ smallFrom (now (book .entry)) from ⌝ }
+{
+    if book.len() - from < 8 {
+        return Reading::Refused(Refusal::CutShort);
+    }
+    let command = Command::Small {
+        carbon: four(book, from),
+        count: four(book, from + 4),
+    };
+    Reading::Is(command, from + 8)
+}
+
 // The command at a place of a book.
 pub fn read(book: &[u8], at: usize) -> Reading
     ensures answer { λ r. ⌜ reading r ≡ read (now (book .entry)) at ⌝ }
@@ -111,7 +125,8 @@ pub fn read(book: &[u8], at: usize) -> Reading
         0x05 => read_height(book, from),
         0x06 => Reading::Is(Command::Close, from),
         0x07 => Reading::Is(Command::End, from),
-        0x00 | 0x08..=0xff => Reading::Refused(Refusal::UnknownByte),
+        0x08 => read_small(book, from),
+        0x00 | 0x09..=0xff => Reading::Refused(Refusal::UnknownByte),
     }
 }
 

@@ -36,6 +36,10 @@ fn length(command: Command) -> usize
         Command::Height { cm: _, tenths: _ } => 4,
         Command::Close => 1,
         Command::End => 1,
+        Command::Small {
+            carbon: _,
+            count: _,
+        } => 9,
     }
 }
 
@@ -104,6 +108,11 @@ fn store_command(buffer: &mut [u8], at: usize, command: Command)
         }
         Command::End => {
             store(buffer, at, 1, 0x07);
+        }
+        Command::Small { carbon, count } => {
+            let mg = store(buffer, at, 1, 0x08);
+            let trees = store(buffer, mg, 4, carbon as u64);
+            store(buffer, trees, 4, count as u64);
         }
     }
 }

@@ -82,6 +82,11 @@ fn print_command(output: Output, command: Command) -> Output {
         }
         Command::Close => output.text(b"close"),
         Command::End => output.text(b"end"),
+        Command::Small { carbon, count } => {
+            output
+                .named(b"small ", carbon as u64)
+                .named(b" mg ", count as u64)
+        }
     }
 }
 

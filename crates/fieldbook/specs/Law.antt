@@ -30,7 +30,7 @@ use Rattle.survey.specs.Law.Reach.{read-declines}
 use Rattle.codec.specs.Law.RoundTrip.{read-is-encoded, write-read, read-write}
 use Rattle.survey.specs.Law.Total.{ofTotalling, refusals-of-totalling}
 use Rattle.codec.specs.declared.command.Command.{Command}
-use Rattle.codec.specs.declared.command.Command.the-variants.{Species, Factor, Open, Measured, Height, Close, End}
+use Rattle.codec.specs.declared.command.Command.the-variants.{Species, Factor, Open, Measured, Height, Close, End, Small}
 use Rattle.survey.specs.declared.total.Totals.{Totals}
 use Rattle.fieldbook.specs.Numbers.{extended, numbers, oneByte, twoBytes, fourBytes, speciesOf, cut, same, commandOf}
 use Rattle.fieldbook.specs.Layout.{refusal, bookRefusal, totals, answered, command, writeNumbers, bufferAfter}
@@ -147,6 +147,7 @@ cut-numbers (Measured class count) fits = rw (mod-eq-of-lt (fits .0), mod-eq-of-
 cut-numbers (Height cm tenths) fits = rw (mod-eq-of-lt (fits .0), mod-eq-of-lt (fits .1))
 cut-numbers Close fits = refl
 cut-numbers End fits = refl
+cut-numbers (Small carbon count) fits = rw (mod-eq-of-lt (fits .0), mod-eq-of-lt (fits .1))
 
 -- and every command's numbers stand for it
 pub command-numbers : (c : Command) → Fits c → commandOf (numbers c) ≡ gives c
@@ -182,7 +183,8 @@ cut-fits ns =
     (either-fits (eqb b 4) _ _ (one 1, two 2)
     (either-fits (eqb b 5) _ _ (one 1, two 2)
     (either-fits (eqb b 6) _ _ tt
-    (either-fits (eqb b 7) _ _ tt tt))))))
+    (either-fits (eqb b 7) _ _ tt
+    (either-fits (eqb b 8) _ _ (four 1, four 2) tt)))))))
 
 command-fits : (ns : List ℕ) (c : Command) → commandOf ns ≡ gives c → Fits c
 unfolding commandOf
@@ -200,9 +202,9 @@ cut-declines ns =
     let b = getD ns 0 0 in
     let command : (k : ℕ) (c : Command) (rest : Report Command) → Declines NotZero rest → Declines NotZero (cond (eqb b k) (gives c) rest) =
     λ k c rest. cond-declines NotZero (eqb b k) (gives c) rest (gives-declines NotZero c) in
-    command 1 _ _ (command 2 _ _ (command 3 _ _ (command 4 _ _ (command 5 _ _ (command 6 _ _ (command 7 _ _ λ n e none.
+    command 1 _ _ (command 2 _ _ (command 3 _ _ (command 4 _ _ (command 5 _ _ (command 6 _ _ (command 7 _ _ (command 8 _ _ λ n e none.
     let two : 2 ≡ n = number-is e in
-    omega arith))))))
+    omega arith)))))))
 
 pub zero-is-written : (b : List ℕ) (at : ℕ) (ns : List ℕ) → refusal (writeNumbers b at ns) ≡ 0 → Given (writeNumbers b at ns)
 unfolding commandOf write

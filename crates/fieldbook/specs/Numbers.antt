@@ -10,7 +10,7 @@ use Rattle.codec.specs.Refusal.{number}
 use Rattle.codec.specs.Bytes.{signed, unsigned}
 use Rattle.codec.specs.declared.command.Species as Declared
 use Rattle.codec.specs.declared.command.Command.{Command}
-use Rattle.codec.specs.declared.command.Command.the-variants.{Species, Factor, Open, Measured, Height, Close, End}
+use Rattle.codec.specs.declared.command.Command.the-variants.{Species, Factor, Open, Measured, Height, Close, End, Small}
 use Rattle.fieldbook.specs.declared.commands.Converted.{Converted}
 
 -- from 32 bits to 64: the upper half of the one is the uppermost part of the other (Law: natural-wide, negative-wide: so it is two's complement)
@@ -27,6 +27,7 @@ numbers (Measured class count) = 4 ∷ class ∷ count ∷ 0 ∷ 0 ∷ 0 ∷ 0 �
 numbers (Height cm tenths) = 5 ∷ cm ∷ tenths ∷ 0 ∷ 0 ∷ 0 ∷ 0 ∷ 0 ∷ 0 ∷ []
 numbers Close = 6 ∷ 0 ∷ 0 ∷ 0 ∷ 0 ∷ 0 ∷ 0 ∷ 0 ∷ 0 ∷ []
 numbers End = 7 ∷ 0 ∷ 0 ∷ 0 ∷ 0 ∷ 0 ∷ 0 ∷ 0 ∷ 0 ∷ []
+numbers (Small carbon count) = 8 ∷ carbon ∷ count ∷ 0 ∷ 0 ∷ 0 ∷ 0 ∷ 0 ∷ 0 ∷ []
 
 -- ---- the command that numbers stand for
 
@@ -67,7 +68,8 @@ cut ns =
     (cond (eqb (getD ns 0 0) 5) (gives (Height (oneByte ns 1) (twoBytes ns 2)))
     (cond (eqb (getD ns 0 0) 6) (gives Close)
     (cond (eqb (getD ns 0 0) 7) (gives End)
-    (refused 2)))))))
+    (cond (eqb (getD ns 0 0) 8) (gives (Small (fourBytes ns 1) (fourBytes ns 2)))
+    (refused 2))))))))
 
 -- whether two lists have the same numbers
 abbrev pub same : List ℕ → List ℕ → Bool

@@ -83,6 +83,7 @@ fn numbers_of(command: Command) -> [u64; 9]
         Command::Height { cm, tenths } => [5, cm as u64, tenths as u64, 0, 0, 0, 0, 0, 0],
         Command::Close => [6, 0, 0, 0, 0, 0, 0, 0, 0],
         Command::End => [7, 0, 0, 0, 0, 0, 0, 0, 0],
+        Command::Small { carbon, count } => [8, carbon as u64, count as u64, 0, 0, 0, 0, 0, 0],
     }
 }
 
@@ -107,6 +108,8 @@ fn cut(n: [u64; 9]) -> Converted
     let first = (n[1] % 256) as u8;
     let second = (n[2] % 256) as u8;
     let pair = (n[2] % 65_536) as u16;
+    let carbon = (n[1] % 4_294_967_296) as u32;
+    let count = (n[2] % 4_294_967_296) as u32;
     let p = (n[3] % 4_294_967_296) as u32;
     let q = (n[4] % 4_294_967_296) as u32;
     match n[0] {
@@ -131,6 +134,7 @@ fn cut(n: [u64; 9]) -> Converted
         }),
         6 => Converted::Is(Command::Close),
         7 => Converted::Is(Command::End),
+        8 => Converted::Is(Command::Small { carbon, count }),
         _ => Converted::Refused(Refusal::UnknownByte),
     }
 }

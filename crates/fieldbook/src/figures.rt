@@ -6,6 +6,7 @@ use biomass::report::Biomass;
 use biomass::report::Carbon;
 use biomass::report::Count;
 use biomass::root::root;
+use biomass::small_trees::small_trees;
 use biomass::stem::stem;
 use biomass::tariff::line_tariff;
 use biomass::tariff::single_tariff;
@@ -25,6 +26,7 @@ ghost use Rattle.biomass.specs.Stem.{stem};
 ghost use Rattle.biomass.specs.Crown.{crown};
 ghost use Rattle.biomass.specs.Root.{root};
 ghost use Rattle.biomass.specs.Tree.{tree, rowBiomass, averageTree};
+ghost use Rattle.biomass.specs.SmallTrees.{smallTrees};
 ghost use Rattle.biomass.specs.Project.{project};
 ghost use Rattle.fieldbook.specs.Layout.{refusal, figure, ends, carbonEnds};
 
@@ -207,6 +209,15 @@ pub extern "C" fn fieldbook_row(
         row_biomass(trees, average_tree(tariff, d, factor, gravity, crown, root)),
         answer,
     )
+}
+
+// The small trees of document 02: so many hundredths of one, each of so many mg of carbon.
+#[no_mangle]
+pub extern "C" fn fieldbook_small_trees(number: u64, carbon: u64, answer: &mut [u64; 2]) -> u8
+    ensures refusal { λ r. ⌜ r ≡ refusal (smallTrees number carbon) ⌝ }
+    ensures answer { λ _. ⌜ now (answer .exit) ≡ ends (smallTrees number carbon) ⌝ }
+{
+    store_biomass(small_trees(number, carbon), answer)
 }
 
 #[no_mangle]

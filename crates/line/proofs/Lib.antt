@@ -1,2 +1,3 @@
 -- Laws that the proofs of several routines share.
 pub mod Limit
+pub mod Scaled

@@ -2,6 +2,8 @@
 -- biomass/specs/Lib.antt.
 pub mod Line
 pub mod Row
+-- the exact value of a line
+pub mod Exact
 -- what the code does of any line
 pub mod AnyLine
 -- what is proved of all this

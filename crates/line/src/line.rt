@@ -1,14 +1,18 @@
 // A line: what is noted of it while it is open, and the row that it leaves.
 use super::row::Row;
+use biomass::limits::GREATEST_CARBON;
 use biomass::limits::MOST_ESTIMATED;
 use biomass::limits::MOST_HEIGHTS;
 use biomass::limits::MOST_MEASURED;
+use biomass::limits::MOST_SMALL;
 use biomass::mean::mean;
 use biomass::report::Biomass;
 use biomass::report::Count;
+use biomass::small_trees::small_trees;
 use biomass::tariff::line_tariff;
 use biomass::tariff::single_tariff;
 use biomass::tree::AverageTree;
+use biomass::tree::row_biomass;
 use biomass::trees::trees;
 use biomass::units::BiomassRange;
 use biomass::units::Milligrams;
@@ -20,11 +24,13 @@ use powers::diameter::UNITS_TO_CM;
 ghost use mathlib.Core.Path.{_≡_};
 ghost use Prim.Native.Nat.{_≤_};
 ghost use Rattle.biomass.specs.Report.{count};
+ghost use Rattle.biomass.specs.Ends.{between};
 ghost use Rattle.powers.specs.Diameter.{leastD, greatestD};
 ghost use Rattle.biomass.specs.Limits.{mostEstimated};
 ghost use Rattle.biomass.specs.Law.Report.{Inside};
-ghost use Rattle.line.specs.Line.{newLine, tariffOf, emptyRow};
-ghost use Rattle.line.specs.AnyLine.{updated, estimated, addTrees, addHeight, worked, someRow, lineRow};
+ghost use Rattle.biomass.specs.Law.Tree.{greatestRow};
+ghost use Rattle.line.specs.Line.{newLine, tariffOf, addSmall, rowWith, emptyRow};
+ghost use Rattle.line.specs.AnyLine.{updated, estimated, scaling, addTrees, addHeight, scaled, rowGaining, worked, someRow, smallRow, lineRow};
 
 // What the squares of a line add up to at most: no class is above 100 cm.
 const MOST_SQUARES: u64 = 10_000 * MOST_MEASURED;
@@ -44,6 +50,12 @@ pub struct Heights {
     pub tariffs: u64,
 }
 
+// Small trees: the carbon of one in mg, and how many; a count of 0: none are given.
+pub struct SmallTrees {
+    pub carbon: u64,
+    pub count: u64,
+}
+
 pub struct Line {
     pub stratum: u8,
     // The species' id, and what it was declared with.
@@ -53,6 +65,7 @@ pub struct Line {
     pub q: u32,
     pub tally: Tally,
     pub heights: Heights,
+    pub small: SmallTrees,
 }
 
 // The line with one command more, or why not.
@@ -67,11 +80,41 @@ pub enum Estimated {
     Refused(Refusal),
 }
 
+// How many trees are estimated, in hundredths, or why a line with so many does not close.
+enum Scaled {
+    Is(u64),
+    Refused(Refusal),
+}
+
 // The single tariff of a tree of a species.
 fn tariff_of(s: Species, cm: u8, tenths: u16) -> Count
     ensures { λ r. ⌜ count r ≡ tariffOf s cm tenths ⌝ }
 {
     single_tariff(s.c1, s.c2, s.c3, s.c4, cm as u64, tenths as u64)
+}
+
+// That of no tree.
+fn no_biomass() -> BiomassRange
+    ensures { λ r. ⌜ r ≡ between 0 0 ⌝ }
+{
+    BiomassRange {
+        low: Milligrams(0),
+        high: Milligrams(0),
+    }
+}
+
+// Step 3, and whether the line may have so many.
+fn scale(n: u64, p: u32, q: u32) -> Scaled
+    ensures { λ r. ⌜ scaling r ≡ scaled n p q ⌝ }
+{
+    let number = match trees(n, p as u64, q as u64) {
+        Count::Is(number) => number,
+        Count::Refused(why) => return Scaled::Refused(of_figure(why)),
+    };
+    if MOST_ESTIMATED < number {
+        return Scaled::Refused(Refusal::TooManyTrees);
+    }
+    Scaled::Is(number)
 }
 
 impl Line {
@@ -84,6 +127,10 @@ impl Line {
             number: 0,
             tariffs: 0,
         };
+        let small = SmallTrees {
+            carbon: 0,
+            count: 0,
+        };
         Line {
             stratum,
             id,
@@ -92,6 +139,7 @@ impl Line {
             q,
             tally,
             heights,
+            small,
         }
     }
 
@@ -110,13 +158,12 @@ impl Line {
         if MOST_MEASURED - trees < self.tally.n {
             return Updated::Refused(Refusal::Limit);
         }
-        let added = trees * (cm * cm);
         // No survey reaches a line of which this is true.
-        if MOST_SQUARES - added < self.tally.squares {
+        if MOST_SQUARES < self.tally.squares {
             return Updated::Refused(Refusal::Operand);
         }
         let n = self.tally.n + trees;
-        let squares = self.tally.squares + added;
+        let squares = self.tally.squares + trees * (cm * cm);
         let tally = Tally { n, squares };
         let mut line = self;
         line.tally = tally;
@@ -135,7 +182,7 @@ impl Line {
             return Updated::Refused(Refusal::Limit);
         }
         // No survey reaches a line of which this is true.
-        if MOST_TARIFFS - tariff < self.heights.tariffs {
+        if MOST_TARIFFS < self.heights.tariffs {
             return Updated::Refused(Refusal::Operand);
         }
         let number = self.heights.number + 1;
@@ -146,28 +193,79 @@ impl Line {
         Updated::Is(line)
     }
 
-    // The row of a line without measured trees.
-    pub fn empty_row(self) -> Row
-        ensures { λ r. ⌜ r ≡ emptyRow self ⌝ }
+    // The small trees, which are given once.
+    pub fn add_small(self, carbon: u32, count: u32) -> Updated
+        ensures { λ r. ⌜ updated r ≡ addSmall carbon count self ⌝ }
     {
-        let none = BiomassRange {
-            low: Milligrams(0),
-            high: Milligrams(0),
+        let small = SmallTrees {
+            carbon: carbon as u64,
+            count: count as u64,
         };
+        if !within(1, small.carbon, GREATEST_CARBON) {
+            return Updated::Refused(Refusal::Operand);
+        }
+        if !within(1, small.count, MOST_SMALL) {
+            return Updated::Refused(Refusal::Operand);
+        }
+        if 0 < self.small.count {
+            return Updated::Refused(Refusal::AlreadyGiven);
+        }
+        let mut line = self;
+        line.small = small;
+        Updated::Is(line)
+    }
+
+    // The line's row with these figures.
+    fn row_with(self, tariff: u8, d: u16, trees: u32, biomass: BiomassRange) -> Row
+        ensures { λ r. ⌜ r ≡ rowWith self tariff d trees biomass ⌝ }
+    {
         Row {
             stratum: self.stratum,
             species: self.id,
-            tariff: 0,
-            d: 0,
-            trees: 0,
-            biomass: none,
+            tariff,
+            d,
+            trees,
+            biomass,
         }
     }
 
-    // The row of a line whose tariff, mean diameter, factor and number of trees are known.
-    fn worked(self, tariff: u64, d: u64, factor: u8, number: u64) -> Estimated
-        requires { ⌜ Inside 1 tariff 50 × Inside leastD d greatestD × (number ≤ mostEstimated) ⌝ }
-        ensures { λ r. ⌜ estimated r ≡ worked self tariff d factor number ⌝ }
+    // The row of a line of which nothing is estimated.
+    pub fn empty_row(self) -> Row
+        ensures { λ r. ⌜ r ≡ emptyRow self ⌝ }
+    {
+        self.row_with(0, 0, 0, no_biomass())
+    }
+
+    // The row with these figures, to which the biomass of so many small trees is added.
+    fn row_gaining(
+        self,
+        tariff: u8,
+        d: u16,
+        trees: u32,
+        measured: BiomassRange,
+        small: u64,
+    ) -> Estimated
+        requires { ⌜ (measured .low .0 ≤ measured .high .0) × (measured .high .0 ≤ greatestRow) ⌝ }
+        ensures { λ r. ⌜ estimated r ≡ rowGaining self tariff d trees measured small ⌝ }
+    {
+        if small == 0 {
+            return Estimated::Is(self.row_with(tariff, d, trees, measured));
+        }
+        let gained = match small_trees(small, self.small.carbon) {
+            Biomass::Is(m) => m,
+            Biomass::Refused(why) => return Estimated::Refused(of_figure(why)),
+        };
+        let both = BiomassRange {
+            low: Milligrams(measured.low.0 + gained.low.0),
+            high: Milligrams(measured.high.0 + gained.high.0),
+        };
+        Estimated::Is(self.row_with(tariff, d, trees, both))
+    }
+
+    // The row of a line whose tariff, mean diameter, factor and numbers of measured and of small trees are known.
+    fn worked(self, tariff: u64, d: u64, factor: u8, number: u64, small: u64) -> Estimated
+        requires { ⌜ Inside 1 tariff 50 × Inside leastD d greatestD × (number ≤ mostEstimated) × (small ≤ mostEstimated) ⌝ }
+        ensures { λ r. ⌜ estimated r ≡ worked self tariff d factor number small ⌝ }
     {
         let s = self.species;
         let average = AverageTree {
@@ -178,18 +276,12 @@ impl Line {
             crown: s.crown as u64,
             root: s.root as u64,
         };
-        let range = match biomass::tree::row_biomass(number, average) {
+        let both = number + small;
+        let measured = match row_biomass(number, average) {
             Biomass::Is(m) => m,
             Biomass::Refused(why) => return Estimated::Refused(of_figure(why)),
         };
-        Estimated::Is(Row {
-            stratum: self.stratum,
-            species: self.id,
-            tariff: tariff as u8,
-            d: d as u16,
-            trees: number as u32,
-            biomass: range,
-        })
+        self.row_gaining(tariff as u8, d as u16, both as u32, measured, small)
     }
 
     // The row of a line with measured trees and height trees, worked with the factor at its mean diameter.
@@ -205,18 +297,30 @@ impl Line {
         if factor == 0 {
             return Estimated::Refused(Refusal::NoFactor);
         }
-        let number = match trees(self.tally.n, self.p as u64, self.q as u64) {
-            Count::Is(n) => n,
-            Count::Refused(why) => return Estimated::Refused(of_figure(why)),
+        let number = match scale(self.tally.n, self.p, self.q) {
+            Scaled::Is(number) => number,
+            Scaled::Refused(why) => return Estimated::Refused(why),
         };
-        if MOST_ESTIMATED < number {
-            return Estimated::Refused(Refusal::TooManyTrees);
-        }
+        let small = match scale(self.small.count, self.p, self.q) {
+            Scaled::Is(number) => number,
+            Scaled::Refused(why) => return Estimated::Refused(why),
+        };
         let tariff = match line_tariff(self.heights.tariffs, self.heights.number) {
             Count::Is(t) => t,
             Count::Refused(why) => return Estimated::Refused(of_figure(why)),
         };
-        self.worked(tariff, d, factor, number)
+        self.worked(tariff, d, factor, number, small)
+    }
+
+    // The row of a line without measured trees.
+    fn small_row(self) -> Estimated
+        ensures { λ r. ⌜ estimated r ≡ smallRow self ⌝ }
+    {
+        let small = match scale(self.small.count, self.p, self.q) {
+            Scaled::Is(number) => number,
+            Scaled::Refused(why) => return Estimated::Refused(why),
+        };
+        self.row_gaining(0, 0, small as u32, no_biomass(), small)
     }
 
     // The line closed: its row.
@@ -224,7 +328,7 @@ impl Line {
         ensures { λ r. ⌜ estimated r ≡ lineRow factors self ⌝ }
     {
         if self.tally.n == 0 {
-            return Estimated::Is(self.empty_row());
+            return self.small_row();
         }
         if self.heights.number == 0 {
             return Estimated::Refused(Refusal::NoHeightTree);

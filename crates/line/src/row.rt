@@ -23,7 +23,7 @@ pub struct Row {
     pub tariff: u8,
     // The mean diameter d, powers::diameter::UNITS_TO_CM to the cm.
     pub d: u16,
-    // The estimated trees N, in hundredths.
+    // The estimated trees N, in hundredths: measured and small ones together.
     pub trees: u32,
     // The row's low and high.
     pub biomass: BiomassRange,

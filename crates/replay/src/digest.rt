@@ -63,6 +63,8 @@ impl Digest {
             .wide(line.tally.squares)
             .wide(line.heights.number)
             .wide(line.heights.tariffs)
+            .wide(line.small.carbon)
+            .wide(line.small.count)
     }
 
     // The 16 species and the 32 rows, two rows to a species.

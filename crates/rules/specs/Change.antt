@@ -6,7 +6,7 @@ use mathlib.Core.List.{List}
 use lib.Dec.{leb, ltb}
 use Rattle.biomass.specs.Report.{Report, refused, gives, unless, when, _then_}
 use Rattle.codec.specs.Refusal.{number}
-use Rattle.line.specs.Line.{newLine, factorAt}
+use Rattle.line.specs.Line.{newLine, addSmall, factorAt}
 use Rattle.rules.specs.Checks.{mostLines, declaredAs, declaring, giving, opening, ending}
 use Rattle.line.specs.AnyLine.{addTrees, addHeight, lineRow}
 use Rattle.codec.specs.declared.command.Species.{Species}
@@ -35,6 +35,7 @@ named (Command.Measured class count) = record { line = false; stratum = 0; speci
 named (Command.Height cm tenths) = record { line = false; stratum = 0; species = 0 }
 named Command.Close = record { line = false; stratum = 0; species = 0 }
 named Command.End = record { line = false; stratum = 0; species = 0 }
+named (Command.Small carbon count) = record { line = false; stratum = 0; species = 0 }
 
 -- What the code asks of a survey with a command of the open line, and of one with a closing, beside what the line itself declines.
 -- a command of the open line, with what becomes of the line
@@ -76,12 +77,14 @@ changeOf (Command.Measured class count) v l factors = updates (v .active) (addTr
 changeOf (Command.Height cm tenths) v l factors = updates (v .active) (addHeight cm tenths l)
 changeOf Command.Close v l factors = closes v l factors
 changeOf Command.End v l factors = ends (v .active)
+changeOf (Command.Small carbon count) v l factors = updates (v .active) (addSmall carbon count l)
 
 -- and of any survey: "5 the book has ended, first of all."
 abbrev pub decided : Command → Seen → Line → List ℕ → Report Change
 decided c v l factors = when (v .ended) 5 (changeOf c v l factors)
 
--- What a command makes of the open line, where it is one of the line's own; the code leaves the rest of the survey aside for these (LineUpdate)
+-- What a command makes of the open line, where it is one of those that the code leaves the rest of the survey aside for (LineUpdate): the two of which a line
+-- has many. Small trees come once a line, and are decided as any other command
 pub data Own : Type 0 where
   own : Report Line → Own
   notOwn : Own
@@ -94,3 +97,4 @@ ownOf (Command.Measured class count) l = own (addTrees class count l)
 ownOf (Command.Height cm tenths) l = own (addHeight cm tenths l)
 ownOf Command.Close l = notOwn
 ownOf Command.End l = notOwn
+ownOf (Command.Small carbon count) l = notOwn

@@ -266,5 +266,6 @@ pub fn decide(command: Command, seen: Seen, line: Line, factors: &[u8; 101]) -> 
         Command::Height { cm, tenths } => updating(seen.active, line.add_height(cm, tenths)),
         Command::Close => closing(seen, line, factors),
         Command::End => ending(seen.active),
+        Command::Small { carbon, count } => updating(seen.active, line.add_small(carbon, count)),
     }
 }

@@ -1,4 +1,4 @@
--- What the code does of any survey at all, also of one that no book reaches: document 01's text (Survey), and besides a check wherever a number could
+-- What the code does of any survey at all, also of one that no book reaches: the papers' text (Survey), and besides a check wherever a number could
 -- otherwise be outside what the next figure is worked from. Of a valid survey, and so of every one that a book reaches, applying is the text (Law.AsWritten:
 -- as-written), and every book comes to what it comes to by the text (Law.Playing: play-as-written). No promise about a whole book is stated over this.
 use Prim.Native.Nat.{ℕ}
@@ -6,7 +6,7 @@ use mathlib.Core.List.{List, [], _∷_}
 use Rattle.biomass.specs.Report.{Report, gives, when}
 use Rattle.rules.specs.Change.{onOpen, keeping}
 use Rattle.line.specs.AnyLine.{addTrees, addHeight, lineRow}
-use Rattle.survey.specs.Survey.{leaves, withLine, withRow, declare, giveFactor, openLine, end}
+use Rattle.survey.specs.Survey.{leaves, withLine, withRow, declare, giveFactor, openLine, giveSmall, end}
 use Rattle.codec.specs.declared.command.Command.{Command}
 use Rattle.line.specs.declared.line.Line.{Line}
 use Rattle.survey.specs.declared.survey.Survey.{Survey}
@@ -40,6 +40,7 @@ apply (Command.Measured class count) s = applyMeasured class count s
 apply (Command.Height cm tenths) s = applyHeight cm tenths s
 apply Command.Close s = applyClose s
 apply Command.End s = end s
+apply (Command.Small carbon count) s = giveSmall carbon count s
 
 -- the survey after a list of commands: a refused one leaves it as it was
 unfoldable pub reached : List Command → Survey → Survey

@@ -1,10 +1,10 @@
--- Any command, by document 01's text: the rules by which a book is totalled (Total) and by which its lines are closed (Closings).
+-- Any command, by the text of documents 01 and 02: the rules by which a book is totalled (Total) and by which its lines are closed (Closings).
 use Prim.Native.Nat.{ℕ}
 use mathlib.Core.Bool.{Bool, true, false, cond}
 use mathlib.Core.List.{List, [], _∷_}
 use lib.Dec.{eqb}
 use Rattle.biomass.specs.Report.{Report}
-use Rattle.survey.specs.Survey.{declare, giveFactor, openLine, measure, giveHeight, close, end}
+use Rattle.survey.specs.Survey.{declare, giveFactor, openLine, measure, giveHeight, giveSmall, close, end}
 use Rattle.codec.specs.declared.command.Command.{Command}
 use Rattle.survey.specs.declared.survey.Survey.{Survey}
 
@@ -16,8 +16,9 @@ asWritten (Command.Measured class count) s = measure class count s
 asWritten (Command.Height cm tenths) s = giveHeight cm tenths s
 asWritten Command.Close s = close s
 asWritten Command.End s = end s
+asWritten (Command.Small carbon count) s = giveSmall carbon count s
 
--- The numbers that document 01 names for each command, as a set: no other is told of a valid survey (Law.Named: only-named). In which order they are asked for
+-- The numbers that documents 01 and 02 name for each command, as a set: no other is told of a valid survey (Law.Named: only-named). In which order they are asked for
 -- is said by the checks themselves (Survey, rules/specs/Checks.antt). "5 the book has ended, first of all."
 abbrev pub numbersOf : Command → List ℕ
 -- "Species and factor: 6 operand outside its range; 7 already given."
@@ -33,6 +34,8 @@ numbersOf (Command.Height cm tenths) = 5 ∷ 10 ∷ 6 ∷ 13 ∷ 11 ∷ []
 numbersOf Command.Close = 5 ∷ 10 ∷ 12 ∷ 14 ∷ 15 ∷ []
 -- "Ending: 9."
 numbersOf Command.End = 5 ∷ 9 ∷ []
+-- "08 is checked for 10, then 6, then 7 where the line has one already" (document 02, Q-1)
+numbersOf (Command.Small carbon count) = 5 ∷ 10 ∷ 6 ∷ 7 ∷ []
 
 -- whether a number is in a list
 abbrev pub isIn : ℕ → List ℕ → Bool

@@ -18,12 +18,13 @@ closing (Command.Measured class count) s = []
 closing (Command.Height cm tenths) s = []
 closing Command.Close s = s ∷ []
 closing Command.End s = []
+closing (Command.Small carbon count) s = []
 
 abbrev pub ifTaken : Report Survey → List Survey → List Survey
 ifTaken (refused n) ss = []
 ifTaken (gives t) ss = ss
 
--- those of commands that are applied one after the other, by document 01's text; one that is refused closes nothing and leaves the survey as it was
+-- those of commands that are applied one after the other, by the papers' text; one that is refused closes nothing and leaves the survey as it was
 unfoldable pub closings : List Command → Survey → List Survey
 closings [] s = []
 closings (c ∷ cs) s = ifTaken (asWritten c s) (closing c s) ++ closings cs (leaves s (asWritten c s) .survey)

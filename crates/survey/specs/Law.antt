@@ -8,9 +8,9 @@
 --     Sheet: row-reads-back                   a row that is stored is read back as it was
 --     Effect: effect                          what a command that is taken changes is a species, a factor, the line or the rows
 --     Valid: fresh-valid, apply-valid         a fresh survey is valid, and every command keeps a survey so; `reached-valid`: so every one that commands reach is
---     AsWritten: as-written                   of a valid survey, applying is document 01's text, with no refusal but those that it names
---     AsWritten: row-of-none                  the row of a line with n = 0 has no figure above 0
---     Named: only-named, never-other          the refusals of each command are those that document 01 names; of any survey, besides only 6 and 11
+--     AsWritten: as-written                   of a valid survey, applying is the papers' text, with no refusal but those that it names
+--     AsWritten: row-of-none                  the row of a line with n = 0 and no small trees has no figure above 0
+--     Named: only-named, never-other          the refusals of each command are those that the papers name; of any survey, besides only 6 and 11
 --     Named: refusal-of-applying              the numbers of applying are 5 to 15
 --     Named: refusal-not-zero, refusal-from-five      and no refusal is taken for acceptance, nor for one of reading or writing
 --     Named: line-row-declines                and those of a line's row by themselves
@@ -24,14 +24,14 @@
 --     Playing: play-valid, play-ended         a book is played to a valid survey, which has ended
 --     Playing: kept-to-the-end                what every command keeps is kept to the end of the book
 --     Playing: end-at-length, one-at-length, place-of-command, place-in-book      a refused book stops at its end with 1 alone, and with any other number at one of its bytes
---     Playing: play-as-written                a book comes to what it comes to by document 01's text alone
+--     Playing: play-as-written                a book comes to what it comes to by the papers' text alone
 --     Playing: play-of-list                   and a book given as its commands plays as they do
 --     Playing: play-reaches                   a book that is accepted comes to the survey that the commands which it reads as reach
 --     Closing: closes-to                      closing leaves the row of the open line, which steps 4 to 7 answer
 --     Closings: rows-of-commands, rows-are    the rows that a list of commands leaves, and so those of an accepted book, are those of its closings, in their order
 --     Closings: closings-of-list              and a list's book has the list's closings
 --     Rows: rows-fit, rows-read-back          no figure of an accepted book's rows is cut off in the sheet, which gives the rows back
---     Total: total-applied, sheet-applied     the answer of totalling and the sheet, which are those of document 01's text, are those of `apply`
+--     Total: total-applied, sheet-applied     the answer of totalling and the sheet, which are those of the papers' text, are those of `apply`
 --     Total: refused-keeps                    a refused book leaves the sheet as it was
 --     Total: refusals-of-totalling            and totalling is refused with 1, 2, 3 or 5 to 16
 --     Total: place-of-refusal                 16 at 0, 1 at the book's length, and any other number at one of the book's bytes
@@ -45,6 +45,7 @@
 --     Listing: listing-accepted, listing-lines, listing-rows  it is accepted by the text, with two lines, which give its two rows
 --     Marked: marked-lines-hold               document 01's marked lines (a) to (j)
 --     WrongPrograms                           document 01's six wrong programs and its low of 0, and that what totalling promises contradicts each
+--     SmallTrees: both-totalled, both-between, small-totalled   of books with small trees, beside measured ones and alone, demand 3 says something
 --     Witness                                 two of them again, at one command, and that what applying promises contradicts them
 
 -- a command's bytes, and books
@@ -75,3 +76,5 @@ pub mod NotVacuous
 pub mod Listing
 pub mod Marked
 pub mod WrongPrograms
+-- books with small trees (document 02, Q-1)
+pub mod SmallTrees

@@ -1,5 +1,5 @@
--- What the code does while a line is open: it leaves the survey aside and updates the line by the line's own commands. (A private part of playing; document
--- 01 does not name it. Law.Playing shows that it comes to the same: update-taken, update-refused.)
+-- What the code does while a line is open: it leaves the survey aside and updates the line by measured trees and height trees. (A private part of playing; no
+-- paper names it. Law.Playing shows that it comes to the same: update-taken, update-refused.)
 use Prim.Native.Nat.{ℕ}
 use mathlib.Core.List.{List}
 use Rattle.biomass.specs.Report.{Report, refused, gives, _then_}

@@ -34,7 +34,7 @@ played p = by-outcome (p .outcome)
 abbrev pub comesTo : Halt → Survey → Played
 comesTo h s = played (record { survey = s; at = h .at; outcome = h .outcome })
 
--- The rules by which a command is applied to a survey: document 01's bare text (AsWritten), by which a book is totalled, or `apply`, which the code does
+-- The rules by which a command is applied to a survey: the papers' bare text (AsWritten), by which a book is totalled, or `apply`, which the code does
 -- and by which each book comes to the same (Law.Playing: play-as-written)
 abbrev pub Rules : Type 0
 Rules = Command → Survey → Report Survey

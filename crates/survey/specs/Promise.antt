@@ -8,7 +8,7 @@ use Rattle.survey.specs.Demand3.{Demanded}
 
 -- the answer r, and the sheet afterwards
 pub record Promised (book sheet : List ℕ) (r : Answer) (after : List ℕ) : Type 0 where
-  -- demand 2: both are those of document 01's rules
+  -- demand 2: both are those of the papers' rules
   pub answered : r ≡ total book sheet
   pub stored : after ≡ sheetAfter book sheet
   -- demand 3, of the figures that come back

@@ -1,4 +1,4 @@
--- "Applying a command to a survey", refusal by refusal, in document 01's order and with no refusal but those that it names. The code has checks besides
+-- "Applying a command to a survey", refusal by refusal, in the order of documents 01 and 02 and with no refusal but those that they name. The code has checks besides
 -- (Apply), which decline only surveys that no book reaches.
 use Prim.Native.Nat.{ℕ, _+_}
 use mathlib.Core.Bool.{Bool, true, false, cond}
@@ -12,7 +12,7 @@ use Rattle.biomass.specs.Limits.{mostMeasured, mostHeights, mostEstimated}
 use Rattle.biomass.specs.declared.tree.AverageTree.{AverageTree}
 use Rattle.codec.specs.Refusal.{number}
 use Rattle.rules.specs.Checks.{mostLines, declaredAs, declaring, giving, anyLine, opening, ending}
-use Rattle.line.specs.Line.{newLine, withTrees, withHeight, tariffOf, T-of, d-of, N-of, factorAt, factorFor, treeWith, Estimate, noTrees, estimatedRow, emptyRow}
+use Rattle.line.specs.Line.{newLine, withTrees, withHeight, tariffOf, addSmall, T-of, d-of, N-of, small-of, factorAt, factorFor, treeWith, MeasuredPart, Estimate, smallPart, noMeasured, estimatedRow, emptyRow}
 use Rattle.codec.specs.declared.command.Species.{Species}
 use Rattle.line.specs.declared.row.Row.{Row}
 use Rattle.line.specs.declared.line.Line.{Line}
@@ -149,6 +149,14 @@ giveHeight cm tenths s =
     when (leb mostHeights (s .line .heights .number)) 11
     (gives (withLine s (withHeight T (s .line))))))
 
+-- "08 is checked for 10, then 6, then 7 where the line has one already" (document 02, Q-1); 6 and 7 are line/specs/Line.antt
+unfoldable pub giveSmall : ℕ → ℕ → Survey → Report Survey
+giveSmall carbon count s =
+    when (s .ended) 5
+    (unless (s .active) 10
+    (addSmall carbon count (s .line) then λ l.
+    gives (withLine s l)))
+
 -- "the factor at d div 10 cm" of the open line; 0: none was given
 abbrev pub f-of : Survey → ℕ
 f-of s = factorFor (s .factors) (d-of (s .line))
@@ -157,27 +165,36 @@ f-of s = factorFor (s .factors) (d-of (s .line))
 abbrev pub treeAt : Survey → AverageTree
 treeAt s = treeWith (s .line .species) (T-of (s .line)) (d-of (s .line)) (f-of s)
 
-abbrev pub someTrees : Survey → Estimate
-someTrees s = record { N = N-of (s .line); tree = treeAt s }
+abbrev pub someMeasured : Survey → MeasuredPart
+someMeasured s = record { N = N-of (s .line); tree = treeAt s }
 
--- "taking T, d, N, f and s of each line": what is estimated of the open line, from what is noted of it and the factors given
+unfoldable pub measuredAt : Survey → MeasuredPart
+measuredAt s = cond (eqb (s .line .tally .n) 0) noMeasured (someMeasured s)
+
+-- "taking T, d, N, f and s of each line": what is estimated of the open line, from what is noted of it and the factors given; and of its small trees
 unfoldable pub estimate : Survey → Estimate
-estimate s = cond (eqb (s .line .tally .n) 0) noTrees (someTrees s)
+estimate s = record { measured = measuredAt s; small = smallPart (s .line) }
 
 -- the row that the open line leaves
 unfoldable pub closingRow : Survey → Row
 closingRow s = estimatedRow (s .line) (estimate s)
 
--- "Closing: 10; then, where n > 0, 12 no height tree; 14 no factor for d div 10; 15 N over 100,000,000." "in closing order"
+-- "either number above 100,000,000 at closing is 15, with n = 0 too" (document 02, Q-1): the small number, and then the line is closed. "in closing order"
+abbrev pub closeSmall : Survey → Report Survey
+closeSmall s =
+    unless (leb (small-of (s .line)) mostEstimated) 15
+    (gives (withRow s (closingRow s)))
+
+-- "Closing: 10; then, where n > 0, 12 no height tree; 14 no factor for d div 10; 15 N over 100,000,000."
 unfoldable pub close : Survey → Report Survey
 close s =
     when (s .ended) 5
     (unless (s .active) 10
-    (cond (eqb (s .line .tally .n) 0) (gives (withRow s (closingRow s)))
+    (cond (eqb (s .line .tally .n) 0) (closeSmall s)
     (when (eqb (s .line .heights .number) 0) 12
     (when (eqb (f-of s) 0) 14
     (unless (leb (N-of (s .line)) mostEstimated) 15
-    (gives (withRow s (closingRow s))))))))
+    (closeSmall s))))))
 
 -- "Ending: 9."
 unfoldable pub end : Survey → Report Survey

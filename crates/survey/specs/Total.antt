@@ -71,7 +71,7 @@ answerOf (ended s) = totalled (totalOf (rowsOf s))
 abbrev pub answerInto : List ℕ → Played → Answer
 answerInto sheet p = cond (short sheet) (refusedAt 16 0) (answerOf p)
 
--- the book is played by document 01's text
+-- the book is played by the papers' text
 unfoldable pub total : List ℕ → List ℕ → Answer
 total book sheet = answerInto sheet (playBy asWritten book)
 

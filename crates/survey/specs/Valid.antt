@@ -5,16 +5,17 @@ use mathlib.Core.Bool.{true, false}
 use mathlib.Core.List.{List, [], _∷_}
 use lib.ListN.{length, getD, take}
 use Rattle.powers.specs.Diameter.{greatestD}
-use Rattle.biomass.specs.Limits.{mostMeasured, mostHeights, mostEstimated, greatestArea}
+use Rattle.biomass.specs.Limits.{mostMeasured, mostHeights, greatestArea, mostSmall, greatestCarbon}
 use Rattle.biomass.specs.Law.Report.{Inside}
-use Rattle.biomass.specs.Law.Tree.{RowBounds}
 use Rattle.line.specs.Line.{factorAt, emptyRow}
+use Rattle.line.specs.Law.Estimate.{LineBounds, mostOfBoth}
 use Rattle.survey.specs.Survey.{noLine, speciesAt, declared, opened}
 use Rattle.rules.specs.Checks.{mostLines, anyLine}
 use Rattle.codec.specs.declared.command.Species.{Species}
 use Rattle.line.specs.declared.row.Row.{Row}
 use Rattle.line.specs.declared.line.Tally.{Tally}
 use Rattle.line.specs.declared.line.Heights.{Heights}
+use Rattle.line.specs.declared.line.SmallTrees.{SmallTrees}
 use Rattle.line.specs.declared.line.Line.{Line}
 use Rattle.survey.specs.declared.survey.Survey.{Survey}
 
@@ -39,6 +40,12 @@ pub record ValidHeights (h : Heights) : Type 0 where
   pub few : h .number ≤ mostHeights
   pub tariffs : Inside (h .number) (h .tariffs) (50 * h .number)
 
+-- small trees: up to 1,000,000, each of 1 mg of carbon and more, as far as its 4 bytes go; or none
+pub record ValidSmall (t : SmallTrees) : Type 0 where
+  pub few : t .count ≤ mostSmall
+  pub some : 0 < t .count → 1 ≤ t .carbon
+  pub light : t .carbon ≤ greatestCarbon
+
 -- an open line: its species is the survey's, and what is noted of it is within the limits
 pub record ValidLine (s : Survey) (l : Line) : Type 0 where
   pub is-declared : declared (l .id) s ≡ true
@@ -47,16 +54,17 @@ pub record ValidLine (s : Survey) (l : Line) : Type 0 where
   pub q : Inside 1 (l .q) greatestArea
   pub tally : ValidTally (l .tally)
   pub heights : ValidHeights (l .heights)
+  pub small : ValidSmall (l .small)
   -- no line of the same stratum and species was closed before
   pub first : opened (l .stratum) (l .id) s ≡ false
 
--- a row's figures are within those of the greatest row
+-- a row's figures are within those of the greatest line
 pub record Within (r : Row) : Type 0 where
   pub species : r .species ≤ 15
   pub tariff : r .tariff ≤ 50
   pub d : r .d ≤ greatestD
-  pub trees : r .trees ≤ mostEstimated
-  pub biomass : RowBounds (r .trees) (r .biomass)
+  pub trees : r .trees ≤ mostOfBoth
+  pub biomass : LineBounds (r .trees) (r .biomass)
 
 -- no two rows are of the same stratum and species
 pub data Apart : List Row → Type 0 where

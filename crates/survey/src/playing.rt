@@ -27,7 +27,8 @@ pub(crate) struct Played {
     pub(crate) outcome: Outcome,
 }
 
-// The open line after a command and the place after it, or why the command is refused; or that it is not one of the line's own.
+// The open line after a command and the place after it, or why the command is refused; or that it is another command than
+// measured trees or a height tree, of which a line has many.
 enum LineUpdate {
     Is(Line, usize),
     Other,
@@ -73,7 +74,7 @@ fn updated_to(answer: Updated, next: usize) -> LineUpdate
     }
 }
 
-// One command: read at the place, and the open line updated by it where it is the line's own.
+// One command: read at the place, and the open line updated by it where it is measured trees or a height tree.
 fn update_line(book: &[u8], at: usize, line: Line) -> LineUpdate
     ensures { λ r. ⌜ lineUpdate r ≡ updateLine (now (book .entry)) at line ⌝ }
 {
@@ -87,9 +88,9 @@ fn update_line(book: &[u8], at: usize, line: Line) -> LineUpdate
     }
 }
 
-// The lines of a book and their commands. A command of an open line changes the line alone, so the survey, which is
-// more than twenty times as large, is left aside for it; and what another command changes is stored in its place, here,
-// since a table of species or of rows cannot be lent.
+// The lines of a book and their commands. Measured trees and height trees change the open line alone, so the survey, which
+// is some twenty times as large, is left aside for them; and what another command changes is stored in its place,
+// here, since a table of species or of rows cannot be lent.
 pub(crate) fn play(book: &[u8]) -> Played
     ensures { λ r. ⌜ played r ≡ play (now (book .entry)) ⌝ }
 {

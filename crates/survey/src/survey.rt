@@ -11,7 +11,7 @@ use rules::change::any_line;
 use rules::change::decide;
 use rules::change::names;
 ghost use mathlib.Core.Path.{_≡_};
-ghost use Rattle.survey.specs.Survey.{outcome, applied, leaves, fresh, declare, giveFactor, openLine, end};
+ghost use Rattle.survey.specs.Survey.{outcome, applied, leaves, fresh, declare, giveFactor, openLine, giveSmall, end};
 ghost use Rattle.survey.specs.Apply.{applyMeasured, applyHeight, applyClose, apply};
 ghost use Rattle.survey.specs.Changed.{changed, HasPlace};
 
@@ -193,5 +193,12 @@ impl Survey {
         ensures { λ r. ⌜ applied r ≡ leaves self (end self) ⌝ }
     {
         self.apply(Command::End)
+    }
+
+    // 08: the small trees of the open line.
+    pub fn give_small(self, carbon: u32, count: u32) -> Applied
+        ensures { λ r. ⌜ applied r ≡ leaves self (giveSmall carbon count self) ⌝ }
+    {
+        self.apply(Command::Small { carbon, count })
     }
 }

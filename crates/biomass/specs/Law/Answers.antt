@@ -6,7 +6,7 @@ use mathlib.Core.Bool.{Bool}
 use Rattle.biomass.specs.Whole.{inside}
 use Rattle.biomass.specs.Report.{Report, gives, unless, _then_}
 use Rattle.powers.specs.Diameter.{leastD, greatestD}
-use Rattle.biomass.specs.Limits.{mostMeasured, mostHeights, mostEstimated, greatestArea}
+use Rattle.biomass.specs.Limits.{mostMeasured, mostHeights, mostEstimated, greatestArea, greatestCarbon}
 use Rattle.biomass.specs.Tariff.{lineTariff}
 use Rattle.biomass.specs.Mean.{mean, meanOf}
 use Rattle.biomass.specs.Trees.{trees, treesOf}
@@ -15,6 +15,7 @@ use Rattle.biomass.specs.Stem.{stem, stemEnds}
 use Rattle.biomass.specs.Crown.{crown, crownEnds}
 use Rattle.biomass.specs.Root.{root, rootEnds}
 use Rattle.biomass.specs.Tree.{treeOf, tree, rowBiomass, rowOf}
+use Rattle.biomass.specs.SmallTrees.{smallOf, smallTrees}
 use Rattle.biomass.specs.Project.{project, projectOf, greatestSum}
 use Rattle.biomass.specs.Law.Report.{Inside, true-inside}
 use Rattle.biomass.specs.Law.Tree.{Operands}
@@ -62,6 +63,10 @@ tree-answers t o =
 pub row-answers : (N : ℕ) (t : AverageTree) → Inside 0 N mostEstimated → Operands t → rowBiomass N t ≡ gives (rowOf N (treeOf t))
 unfolding rowBiomass
 row-answers N t n o = open-to 6 _ n ∙ ap (λ (r : Report BiomassRange). r then (λ m. gives (rowOf N m))) (tree-answers t o)
+
+pub small-answers : (number carbon : ℕ) → Inside 0 number mostEstimated → Inside 1 carbon greatestCarbon → smallTrees number carbon ≡ gives (smallOf number carbon)
+unfolding smallTrees
+small-answers number carbon n c = open-to 6 _ n ∙ open-to 6 _ c
 
 pub project-answers : (sums : BiomassRange) (N : ℕ) → Inside 0 (sums .low .0) greatestSum → Inside 0 (sums .high .0) greatestSum → project sums N ≡ gives (projectOf sums N)
 unfolding project

@@ -7,7 +7,7 @@ use mathlib.Core.Logic.{_⊎_, inl, inr, ⊎-elim}
 use lib.IntN.{ℤ, pos, negsuc}
 use Rattle.biomass.specs.Whole.{inside, _div_}
 use Rattle.biomass.specs.Report.{Report, refused, gives, unless, when, _then_}
-use Rattle.biomass.specs.Limits.{mostMeasured, mostHeights, mostEstimated, greatestArea}
+use Rattle.biomass.specs.Limits.{mostMeasured, mostHeights, mostEstimated, greatestArea, greatestCarbon}
 use Rattle.biomass.specs.Tariff.{tariffSum, fromOneToFifty, singleTariff, lineTariff}
 use Rattle.biomass.specs.Mean.{mean, meanOf, dInRange}
 use Rattle.biomass.specs.Trees.{trees, treesOf}
@@ -16,6 +16,7 @@ use Rattle.biomass.specs.Stem.{stem, stemEnds}
 use Rattle.biomass.specs.Crown.{crown, crownEnds}
 use Rattle.biomass.specs.Root.{root, rootEnds}
 use Rattle.biomass.specs.Tree.{tree, added, rowBiomass, rowOf}
+use Rattle.biomass.specs.SmallTrees.{smallOf, smallTrees}
 use Rattle.biomass.specs.Law.Gives.{never, number-is}
 use Rattle.biomass.specs.declared.tree.AverageTree.{AverageTree}
 
@@ -121,3 +122,7 @@ tree-declines t =
 pub row-declines : (N : ℕ) (t : AverageTree) → Declines Six (rowBiomass N t)
 unfolding rowBiomass
 row-declines N t = six (inside 0 N mostEstimated) _ (then-declines Six (tree t) _ (tree-declines t) (λ m. gives-declines Six (rowOf N m)))
+
+pub small-declines : (number carbon : ℕ) → Declines Six (smallTrees number carbon)
+unfolding smallTrees
+small-declines number carbon = six (inside 0 number mostEstimated) _ (six (inside 1 carbon greatestCarbon) _ (gives-declines Six (smallOf number carbon)))

@@ -136,6 +136,10 @@ of-tree (suc n) one h b =
     let small = rw (eqb·suc-zero n) at (high-small (suc n) one h (b .small)) in
     rw (eqb·suc-zero n) (omega arith)
 
+-- of no trees, whatever one would be
+pub none-bounds : (one : BiomassRange) → RowBounds 0 (rowOf 0 one)
+none-bounds one = omega arith
+
 pub row-bounds : (N : ℕ) (t : AverageTree) (m : BiomassRange) → rowBiomass N t ≡ gives m → RowBounds N m
 row-bounds N t m e =
     let g = row-gives N t m e in

@@ -15,13 +15,13 @@ use Rattle.biomass.specs.Report.{Report, refused, gives}
 use Rattle.biomass.specs.Law.Gives.{never, figure-is, test-passed}
 use Rattle.codec.specs.Bytes.{byte, storedAt, AllBytes, numberAt, bytes, signed, unsigned}
 use Rattle.codec.specs.Command.{encode, Fits, FitsFour}
-use Rattle.codec.specs.Reading.{withOperands, speciesFrom, factorFrom, openFrom, measuredFrom, heightFrom, commandFrom, read}
+use Rattle.codec.specs.Reading.{withOperands, speciesFrom, factorFrom, openFrom, measuredFrom, heightFrom, smallFrom, commandFrom, read}
 use Rattle.codec.specs.Writing.{fitsAt, write, bufferAfter}
 use Rattle.codec.specs.RoundTrip.{ReadsBack, WritesBack}
 use Rattle.codec.specs.Law.Storing.{stands-stored, stored-keeps, length-stored, stored-again, store-fits, store-cases, store-keeps-length}
 use Rattle.codec.specs.Law.Bytes.{EachByte, no-byte, one-byte, each-append, each-all, Stands, nothing, before, stands-at, stands-first, stands-second, stands-append, stands-taken, bytes-below, number-below, number-of-bytes, bytes-of-number, unsigned-fits, signed-unsigned, signed-fits, unsigned-signed}
 use Rattle.codec.specs.declared.command.Command.{Command}
-use Rattle.codec.specs.declared.command.Command.the-variants.{Species, Factor, Open, Measured, Height, Close, End}
+use Rattle.codec.specs.declared.command.Command.the-variants.{Species, Factor, Open, Measured, Height, Close, End, Small}
 
 -- ---- the bytes of a command are bytes
 
@@ -37,6 +37,7 @@ each-encoded (Measured class count) f = one-byte {x = 4} (omega arith) (one-byte
 each-encoded (Height cm tenths) f = one-byte {x = 5} (omega arith) (one-byte (f .0) (bytes-below 2 tenths))
 each-encoded Close f = one-byte {x = 6} (omega arith) no-byte
 each-encoded End f = one-byte {x = 7} (omega arith) no-byte
+each-encoded (Small carbon count) f = one-byte {x = 8} (omega arith) (each-append (bytes-below 4 carbon) (bytes-below 4 count))
 
 pub encode-bytes : (c : Command) → Fits c → AllBytes (encode c)
 encode-bytes c f = each-all (each-encoded c f)
@@ -61,7 +62,7 @@ signed-of-bytes z s i f h = rw (number-of-bytes 4 (unsigned z) (unsigned-fits z 
 
 pub read-encoded : (s : List ℕ) (at : ℕ) (c : Command) → Fits c → Stands (encode c) s at → at + length (encode c) ≤ length s
     → read s at ≡ gives (c, at + length (encode c))
-unfolding commandFrom speciesFrom factorFrom openFrom measuredFrom heightFrom
+unfolding commandFrom speciesFrom factorFrom openFrom measuredFrom heightFrom smallFrom
 read-encoded s at (Species id sp) f (before b (before e₁ (before e₂ (before e₃ (before e₄ h))))) enough =
     let b₁ = bytes 4 (unsigned (sp .c1)) in
     let b₂ = bytes 4 (unsigned (sp .c2)) in
@@ -90,6 +91,10 @@ read-encoded s at (Height cm tenths) f (before b (before e₁ h)) enough =
     read-by s at 5 (omega arith) b ∙ with-operands-gives s (at + 1) 3 _ (omega arith) ∙ cc (add-assoc at 1 3)
 read-encoded s at Close f (before b h) enough = read-by s at 6 (omega arith) b
 read-encoded s at End f (before b h) enough = read-by s at 7 (omega arith) b
+read-encoded s at (Small carbon count) f (before b h) enough =
+    let n₁ = number-of-bytes 4 carbon (f .0) (stands-first (bytes 4 carbon) (bytes 4 count) h) in
+    let n₂ = number-of-bytes 4 count (f .1) (stands-second (bytes 4 carbon) (bytes 4 count) h) in
+    read-by s at 8 (omega arith) b ∙ with-operands-gives s (at + 1) 8 _ (omega arith) ∙ cc (add-assoc at 1 8)
 
 -- ---- a command that is read is encoded there
 
@@ -170,6 +175,12 @@ module _ (s : List ℕ) (at next : ℕ) (c : Command) where
     height-encoded b e =
         with-operands-encoded 3 _ (all (at + 1), number-below 2 s (at + 1 + 1) all) (before b (before refl (bytes-of-number 2 s (at + 1 + 1) all))) refl e
 
+    small-encoded : byte s at ≡ 8 → smallFrom s (at + 1) ≡ gives (c, next) → ReadIsEncoded s at next c
+    unfolding smallFrom
+    small-encoded b e =
+        let two = stands-append (bytes-of-number 4 s (at + 1) all) (bytes-of-number 4 s (at + 1 + 4) all) in
+        with-operands-encoded 8 _ (number-below 4 s (at + 1) all, number-below 4 s (at + 1 + 4) all) (before b two) refl e
+
 -- by the command's byte
 pub read-is-encoded : (s : List ℕ) (at next : ℕ) (c : Command) → AllBytes s → read s at ≡ gives (c, next) → ReadIsEncoded s at next c
 unfolding read commandFrom
@@ -183,7 +194,8 @@ read-is-encoded s at next c all e =
     by-byte b 4 _ _ e (measured-encoded s at next c all) λ e.
     by-byte b 5 _ _ e (height-encoded s at next c all) λ e.
     by-byte b 6 _ _ e (λ is. gives-encoded s at next c Close (at + 1) tt (before is nothing) refl one) λ e.
-    by-byte b 7 _ _ e (λ is. gives-encoded s at next c End (at + 1) tt (before is nothing) refl one) never
+    by-byte b 7 _ _ e (λ is. gives-encoded s at next c End (at + 1) tt (before is nothing) refl one) λ e.
+    by-byte b 8 _ _ e (small-encoded s at next c all) never
 
 -- ---- the place after a command that is read: past the command's own, and no further than the end. Of any numbers, bytes or not
 
@@ -198,7 +210,7 @@ module _ (s : List ℕ) (at : ℕ) (c : Command) (next : ℕ) where
       gives-moves d (at + 1 + width) (omega arith) (leb-true (at + 1 + width) (length s) (w .0)) (w .1)
 
   pub read-moves : read s at ≡ gives (c, next) → (at < next) × (next ≤ length s)
-  unfolding read commandFrom speciesFrom factorFrom openFrom measuredFrom heightFrom
+  unfolding read commandFrom speciesFrom factorFrom openFrom measuredFrom heightFrom smallFrom
   read-moves e =
       let b = byte s at in
       let start = test-passed (ltb at (length s)) 1 (commandFrom b s (at + 1)) e in
@@ -209,7 +221,8 @@ module _ (s : List ℕ) (at : ℕ) (c : Command) (next : ℕ) where
       by-byte b 4 _ _ e (λ is. with-operands-moves 3 _) λ e.
       by-byte b 5 _ _ e (λ is. with-operands-moves 3 _) λ e.
       by-byte b 6 _ _ e (λ is. gives-moves Close (at + 1) (omega arith) one) λ e.
-      by-byte b 7 _ _ e (λ is. gives-moves End (at + 1) (omega arith) one) never
+      by-byte b 7 _ _ e (λ is. gives-moves End (at + 1) (omega arith) one) λ e.
+      by-byte b 8 _ _ e (λ is. with-operands-moves 8 _) never
 
 -- ---- a command that is written
 

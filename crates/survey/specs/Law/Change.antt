@@ -11,8 +11,8 @@ use borrow.Author.Tests.{leb-false}
 use Rattle.biomass.specs.Whole.{inside}
 use Rattle.biomass.specs.Report.{Report, refused, gives, _then_, when}
 use Rattle.biomass.specs.Law.Report.{inside-true}
-use Rattle.line.specs.Line.{newLine}
-use Rattle.survey.specs.Survey.{speciesAt, withState, withLine, declare, giveFactor, opened, openLine, end}
+use Rattle.line.specs.Line.{newLine, addSmall}
+use Rattle.survey.specs.Survey.{speciesAt, withState, withLine, declare, giveFactor, opened, openLine, giveSmall, end}
 use Rattle.rules.specs.Checks.{speciesInRange, declaredAs, declaring, opening}
 use Rattle.survey.specs.Apply.{onLine, applyMeasured, applyHeight, applyClose, apply}
 use Rattle.line.specs.AnyLine.{addTrees, addHeight}
@@ -47,7 +47,7 @@ module _ (s : Survey) where
 
   -- and so of every command
   as-after : (c : Command) → apply c s ≡ when (s .ended) 5 (after c)
-  unfolding declare giveFactor openLine applyMeasured applyHeight applyClose end
+  unfolding declare giveFactor openLine applyMeasured applyHeight applyClose end giveSmall
   as-after (Command.Species id species) = ap (when (s .ended) 5) (sym (search thens depth 12))
   as-after (Command.Factor cm factor) = ap (when (s .ended) 5) (sym (search thens depth 12))
   as-after (Command.Open stratum id p q) = ap (when (s .ended) 5) (sym (search thens depth 12))
@@ -55,6 +55,7 @@ module _ (s : Survey) where
   as-after (Command.Height cm tenths) = ap (when (s .ended) 5) (sym (line-after (addHeight cm tenths (s .line))))
   as-after Command.Close = ap (when (s .ended) 5) (sym (search thens depth 12))
   as-after Command.End = ap (when (s .ended) 5) (sym (search thens depth 12))
+  as-after (Command.Small carbon count) = ap (when (s .ended) 5) (sym (line-after (addSmall carbon count (s .line))))
 
 -- "5 the book has ended, first of all."
 pub ended-refuses : (c : Command) (s : Survey) → s .ended ≡ true → apply c s ≡ refused 5
@@ -98,6 +99,7 @@ seen-enough (Command.Measured class count) s there before given l factors same f
 seen-enough (Command.Height cm tenths) s there before given l factors same first = refl
 seen-enough Command.Close s there before given l factors same first = refl
 seen-enough Command.End s there before given l factors same first = refl
+seen-enough (Command.Small carbon count) s there before given l factors same first = refl
 
 -- ---- a change has its place
 
@@ -118,6 +120,7 @@ has-place (Command.Measured class count) s there before l factors = search place
 has-place (Command.Height cm tenths) s there before l factors = search places depth 12
 has-place Command.Close s there before l factors = search places depth 12
 has-place Command.End s there before l factors = search places depth 12
+has-place (Command.Small carbon count) s there before l factors = search places depth 12
 
 -- ---- what the code decides
 
@@ -195,3 +198,4 @@ own-applied (Command.Measured class count) s e = ap (λ (r : Report Line). onLin
 own-applied (Command.Height cm tenths) s e = ap (λ (r : Report Line). onLine r s) (own-is e)
 own-applied Command.Close s e = not-own e
 own-applied Command.End s e = not-own e
+own-applied (Command.Small carbon count) s e = not-own e

@@ -17,7 +17,8 @@ use Rattle.survey.specs.Valid.{Valid}
 use Rattle.survey.specs.Playing.{ended, playBy}
 use Rattle.survey.specs.Sheet.{rowsOf}
 use Rattle.survey.specs.Law.AsWritten.{as-written}
-use Rattle.survey.specs.Law.Closing.{Worked, closes-to}
+use Rattle.line.specs.Law.Estimate.{Worked}
+use Rattle.survey.specs.Law.Closing.{closes-to}
 use Rattle.survey.specs.Law.Effect.{Effect, a-species, a-factor, the-line, a-row, effect}
 use Rattle.survey.specs.Law.Valid.{fresh-valid, after-valid}
 use Rattle.survey.specs.Law.Reach.{AllFit, reach-of-list}
@@ -29,7 +30,7 @@ use Rattle.survey.specs.declared.survey.Survey.{Survey}
 -- what is estimated of each of these surveys' open lines was worked
 pub data AllClosed : List Survey → Type 0 where
   no-line : AllClosed []
-  and-lines : (s : Survey) (ss : List Survey) → Worked (s .line) (estimate s) → AllClosed ss → AllClosed (s ∷ ss)
+  and-lines : (s : Survey) (ss : List Survey) → Worked (estimate s) → AllClosed ss → AllClosed (s ∷ ss)
 
 -- the closings on the way from one survey to another
 pub record Between (s t : Survey) (ss : List Survey) : Type 0 where

@@ -1,18 +1,18 @@
--- Demand 3, of every book that is accepted. Each row has it of its own line (Law.Closing, by biomass/specs/Law/Tree.antt and Law/Exact.antt); rows added
--- keep it, and 11/6000 of the sum, with 1 added to the high, keeps it too. A line without trees adds nothing to either side.
+-- Demand 3, of every book that is accepted. Each row has it of its own line (line/specs/Law/Estimate.antt); rows added keep it, and 11/6000 of the sum, with 1
+-- added to the high, keeps it too.
 use Prim.Native.Nat.{ℕ, zero, suc, _+_, _*_, _≤_, _<_}
-use native.Mathlib.Nat.{mul-pos, zero-add}
+use native.Mathlib.Nat.{mul-pos}
 use native.Mathlib.Omega.{arith}
 use mathlib.Core.Path.{_≡_, _∙_, refl, sym, ap, subst}
 use mathlib.Core.List.{List, [], _∷_, map}
 use lib.ListN.{length, getD, take}
 use lib.Dec.{lit<}
 use lib.IntN.{pos}
-use Rattle.biomass.specs.Fraction.{Fraction, whole, _≼_}
+use Rattle.biomass.specs.Fraction.{whole, _≼_}
 use Rattle.biomass.specs.Law.Fraction.{≼-refl, ⊕-mono, whole-⊕}
-use Rattle.biomass.specs.Law.Exact.{row-den, row-not-under, row-not-over}
-use Rattle.biomass.specs.Law.Project.{none-or-some, equal-of-none, none-of-equal, project-gap, project-not-under, project-not-over}
-use Rattle.line.specs.Line.{Estimate, emptyRow}
+use Rattle.biomass.specs.Law.Project.{equal-of-none, none-of-equal, project-gap, project-not-under, project-not-over}
+use Rattle.line.specs.Line.{Estimate, bothNumbers, emptyRow}
+use Rattle.line.specs.Law.Estimate.{estimate-not-under, estimate-not-over, estimate-den, estimate-bounds}
 use Rattle.survey.specs.Survey.{noLine, estimate, closingRow}
 use Rattle.rules.specs.Checks.{mostLines}
 use Rattle.survey.specs.AsWritten.{asWritten}
@@ -21,7 +21,7 @@ use Rattle.survey.specs.Valid.{Within, Valid}
 use Rattle.survey.specs.Playing.{Played, ended, stopped, playBy, play}
 use Rattle.survey.specs.Sheet.{rowsOf}
 use Rattle.survey.specs.Total.{sumOf, rowTrees, lowOf, highOf, totalled, totalOf, answerOf, total}
-use Rattle.survey.specs.Demand3.{linesOf, treesAdded, EveryNIs0, Fractions, afterFirst, exactSum, exactTotal, NoneBelow, NoneAbove, Demand3, Demanded}
+use Rattle.survey.specs.Demand3.{linesOf, treesAdded, NoneEstimated, Fractions, afterFirst, exactSum, exactTotal, NoneBelow, NoneAbove, Demand3, Demanded}
 use Rattle.survey.specs.Law.Sheet.{rows-at-most}
 use Rattle.survey.specs.Law.Sums.{RowsSmall, sums-small}
 use Rattle.survey.specs.Law.Playing.{play-valid, play-as-written}
@@ -32,7 +32,7 @@ use Rattle.survey.specs.declared.survey.Survey.{Survey}
 
 -- ---- the rows
 
--- rows whose figures are within the greatest row
+-- rows whose figures are within the greatest line
 within-small : (n : ℕ) (l : List Row) → ((i : ℕ) → i < n → Within (getD l i (emptyRow noLine))) → RowsSmall (take n l)
 within-small zero l each = RowsSmall.none
 within-small (suc n) [] each = RowsSmall.none
@@ -41,22 +41,22 @@ within-small (suc n) (r ∷ l) each =
     let b = w .biomass in
     RowsSmall.more r (take n l) (w .trees) (omega arith) (omega arith) (within-small n l (λ i h. each (suc i) (omega arith)))
 
--- the rows of a valid survey are within those of the greatest row
+-- and so those of a valid survey
 pub rows-small : (s : Survey) → Valid s → RowsSmall (rowsOf s)
 rows-small s v = within-small (s .closed) (s .rows) (v .rows)
 
 -- ---- the sums
 
--- of closed rows, the two sums are at most 54 mg for each tree and 2 mg for each row apart, and the high one is 0 where no line has trees
+-- of closed rows, the two sums are at most 54 mg for each tree and 3 mg for each row apart, and the high one is 0 where no line has trees
 record SumsNear (rows : List Row) : Type 0 where
-  near : 100 * sumOf highOf rows ≤ 100 * sumOf lowOf rows + 54 * sumOf rowTrees rows + 200 * length rows
+  near : 100 * sumOf highOf rows ≤ 100 * sumOf lowOf rows + 54 * sumOf rowTrees rows + 300 * length rows
   high-of-none : sumOf rowTrees rows ≡ 0 → sumOf highOf rows ≡ 0
 
 sums-near : {ss : List Survey} → AllClosed ss → SumsNear (map closingRow ss)
 unfolding sumOf closingRow
 sums-near no-line = omega arith
 sums-near (and-lines s ss w c) =
-    let b = w .within .biomass in
+    let b = estimate-bounds (estimate s) w in
     let rest = sums-near c in
     record { near = omega arith; high-of-none = λ none. omega (arith, b .high-of-none (omega arith), rest .high-of-none (omega arith)) }
 
@@ -64,18 +64,18 @@ sums-near (and-lines s ss w c) =
 added-is : {ss : List Survey} → AllClosed ss → treesAdded (map estimate ss) ≡ sumOf rowTrees (map closingRow ss)
 unfolding sumOf treesAdded closingRow
 added-is no-line = refl
-added-is (and-lines s ss w c) = ap (λ (n : ℕ). estimate s .N + n) (added-is c)
+added-is (and-lines s ss w c) = ap (λ (n : ℕ). bothNumbers (estimate s) + n) (added-is c)
 
--- ---- "every N is 0" where the N of all lines added is, and only there
+-- ---- none is estimated where the N of all lines added is 0, and only there
 
-none-added : (ls : List Estimate) → EveryNIs0 ls → treesAdded ls ≡ 0
+none-added : (ls : List Estimate) → NoneEstimated ls → treesAdded ls ≡ 0
 unfolding treesAdded
 none-added [] none = refl
 none-added (l ∷ ls) none = omega (arith, none 0, none-added ls (λ i. none (suc i)))
 
-every-none : (ls : List Estimate) → treesAdded ls ≡ 0 → EveryNIs0 ls
+every-none : (ls : List Estimate) → treesAdded ls ≡ 0 → NoneEstimated ls
 unfolding treesAdded
-every-none [] h i = refl
+every-none [] h i = (refl, refl)
 every-none (l ∷ ls) h zero = omega arith
 every-none (l ∷ ls) h (suc i) = every-none ls (omega arith) i
 
@@ -85,44 +85,28 @@ every-none (l ∷ ls) h (suc i) = every-none ls (omega arith) i
 sum-den : (g : Fractions) (ls : List Estimate) → 0 < exactSum g ls .den
 unfolding exactSum
 sum-den g [] = lit< tt
-sum-den g (l ∷ ls) =
-    let rest = sum-den (afterFirst g) ls in
-    none-or-some (λ (x : Fraction). 0 < x .den) (l .N) _ _ (λ none. rest) (λ some. mul-pos (row-den (l .N) (l .tree) (g .crown 0) (g .root 0)) rest)
+sum-den g (l ∷ ls) = mul-pos (estimate-den l (g .crown 0) (g .root 0)) (sum-den (afterFirst g) ls)
 
 pub total-den : (g : Fractions) (ls : List Estimate) → 0 < exactTotal g ls .den
 unfolding exactTotal
 total-den g ls = mul-pos (lit< tt) (sum-den g ls)
 
--- a line without trees has a row of 0 and is not in the exact sum; the others are compared one by one
+-- line by line
 sum-not-under : (g : Fractions) {ss : List Survey} → AllClosed ss → NoneBelow g (map estimate ss)
     → whole (pos (sumOf lowOf (map closingRow ss))) ≼ exactSum g (map estimate ss)
 unfolding sumOf exactSum closingRow
 sum-not-under g no-line below = ≼-refl (whole (pos 0))
 sum-not-under g (and-lines s ss w c) below =
-    let rest = sum-not-under (afterFirst g) c (λ i. below (suc i)) in
-    let b = w .within .biomass in
-    let low = lowOf (closingRow s) in
-    let lows = sumOf lowOf (map closingRow ss) in
-    none-or-some (λ (x : Fraction). whole (pos (low + lows)) ≼ x) (estimate s .N) _ _
-    (λ none. let no-low : low ≡ 0 = omega (arith, b .low-of-none none) in rw (no-low, zero-add) rest)
-    (λ some.
-    let one = row-not-under (estimate s .N) (estimate s .tree) _ (w .answered some) (g .crown 0) (g .root 0) (below 0 some) in
-    rw (← whole-⊕ (pos low) (pos lows)) (⊕-mono one rest))
+    rw (← whole-⊕ (pos (lowOf (closingRow s))) (pos (sumOf lowOf (map closingRow ss))))
+    (⊕-mono (estimate-not-under (estimate s) w (g .crown 0) (g .root 0) (below 0)) (sum-not-under (afterFirst g) c (λ i. below (suc i))))
 
 sum-not-over : (g : Fractions) {ss : List Survey} → AllClosed ss → NoneAbove g (map estimate ss)
     → exactSum g (map estimate ss) ≼ whole (pos (sumOf highOf (map closingRow ss)))
 unfolding sumOf exactSum closingRow
 sum-not-over g no-line above = ≼-refl (whole (pos 0))
 sum-not-over g (and-lines s ss w c) above =
-    let rest = sum-not-over (afterFirst g) c (λ i. above (suc i)) in
-    let b = w .within .biomass in
-    let high = highOf (closingRow s) in
-    let highs = sumOf highOf (map closingRow ss) in
-    none-or-some (λ (x : Fraction). x ≼ whole (pos (high + highs))) (estimate s .N) _ _
-    (λ none. let no-high : high ≡ 0 = omega (arith, b .high-of-none none) in rw (no-high, zero-add) rest)
-    (λ some.
-    let one = row-not-over (estimate s .N) (estimate s .tree) _ (w .answered some) (g .crown 0) (g .root 0) (above 0 some) in
-    rw (← whole-⊕ (pos high) (pos highs)) (⊕-mono one rest))
+    rw (← whole-⊕ (pos (highOf (closingRow s))) (pos (sumOf highOf (map closingRow ss))))
+    (⊕-mono (estimate-not-over (estimate s) w (g .crown 0) (g .root 0) (above 0)) (sum-not-over (afterFirst g) c (λ i. above (suc i))))
 
 -- ---- the demand
 
@@ -141,7 +125,7 @@ demand3 ss closed small number =
     record {
       equal-only-when = λ e. every-none (map estimate ss) (is ∙ none-of-equal L H N ordered e);
       equal-when = λ none. equal-of-none L H N (sym is ∙ none-added (map estimate ss) none);
-      gap = rw is (project-gap L H N (200 * length rows) (omega arith) (b .near));
+      gap = rw is (project-gap L H N (300 * length rows) (omega arith) (b .near));
       not-under-the-low = λ g below. project-not-under L H N (sum-not-under g closed below);
       not-over-the-high = λ g above. project-not-over L H N (b .high-of-none) (sum-not-over g closed above);
     }

@@ -10,24 +10,25 @@ use lib.Dec.{leb, ltb}
 use borrow.Author.Tests.{leb-true, leb-false, ltb-false}
 use Rattle.biomass.specs.Whole.{inside}
 use Rattle.biomass.specs.Report.{Report, gives}
-use Rattle.biomass.specs.Limits.{mostMeasured, mostHeights, greatestArea}
+use Rattle.biomass.specs.Limits.{mostMeasured, mostHeights, greatestArea, mostSmall, greatestCarbon}
 use Rattle.biomass.specs.Law.Report.{Inside, inside-true, both-true}
 use Rattle.biomass.specs.Law.Tariff.{single-tariff-range}
 use Rattle.codec.specs.Command.{Fits}
-use Rattle.line.specs.Line.{lineWith, newLine, withTrees, withHeight, tariffOf, factorAt}
-use Rattle.survey.specs.Survey.{speciesAt, withState, withSpecies, withFactor, withOpened, withLine, withRow, withEnd, declared, declare, giveFactor, opened, openLine, end}
+use Rattle.line.specs.Line.{lineWith, newLine, withTrees, withHeight, withSmall, tariffOf, addSmall, factorAt}
+use Rattle.survey.specs.Survey.{speciesAt, withState, withSpecies, withFactor, withOpened, withLine, withRow, withEnd, declared, declare, giveFactor, opened, openLine, giveSmall, end}
 use Rattle.rules.specs.Checks.{mostLines, speciesInRange, areasInRange}
 use Rattle.survey.specs.Closings.{closing}
 use Rattle.survey.specs.Apply.{onLine, applyMeasured, applyHeight, applyClose, apply}
 use Rattle.line.specs.AnyLine.{addTrees, addHeight}
-use Rattle.survey.specs.Valid.{ValidSpecies, ValidTally, ValidHeights, ValidLine, Valid}
+use Rattle.survey.specs.Valid.{ValidSpecies, ValidTally, ValidHeights, ValidSmall, ValidLine, Valid}
 use Rattle.survey.specs.Law.Checks.{Gives, gives-such, when-such, unless-such, then-such, passed, species-in-range}
-use Rattle.survey.specs.Law.AsWritten.{tallied-valid, heights-valid}
+use Rattle.survey.specs.Law.AsWritten.{tallied-valid, heights-valid, small-given}
 use Rattle.codec.specs.declared.command.Species.{Species}
 use Rattle.codec.specs.declared.command.Command.{Command}
 use Rattle.line.specs.declared.row.Row.{Row}
 use Rattle.line.specs.declared.line.Tally.{Tally}
 use Rattle.line.specs.declared.line.Heights.{Heights}
+use Rattle.line.specs.declared.line.SmallTrees.{SmallTrees}
 use Rattle.line.specs.declared.line.Line.{Line}
 use Rattle.survey.specs.declared.survey.Survey.{Survey}
 
@@ -86,6 +87,7 @@ module _ {c : Command} (s : Survey) where
               q = inside-true 1 q greatestArea (areas .1);
               tally = record { few = zero-le; squares = omega arith };
               heights = record { few = zero-le; tariffs = omega arith };
+              small = record { few = zero-le; some = λ counted. absurd (omega arith); light = zero-le };
               first = first;
             };
         finished = λ v ended. absurd (true≢false (sym ended ∙ not-ended));
@@ -93,10 +95,11 @@ module _ {c : Command} (s : Survey) where
         changed = λ same. true≢false (ap (λ (x : Survey). x .active) same ∙ none-open);
       })
 
-  -- other measured or height trees are noted of the line, within the limits where those before were
-  line-noted : (tally : Tally) (heights : Heights) → (ValidTally (s .line .tally) → ValidTally tally) → (ValidHeights (s .line .heights) → ValidHeights heights)
-      → (lineWith (s .line) tally heights ≡ s .line → ⊥) → Effect c s (withLine s (lineWith (s .line) tally heights)) []
-  line-noted tally heights in-tally in-heights changed =
+  -- other measured, height or small trees are noted of the line, within the limits where those before were
+  line-noted : (tally : Tally) (heights : Heights) (small : SmallTrees) → (ValidTally (s .line .tally) → ValidTally tally)
+      → (ValidHeights (s .line .heights) → ValidHeights heights) → (ValidSmall (s .line .small) → ValidSmall small)
+      → (lineWith (s .line) tally heights small ≡ s .line → ⊥) → Effect c s (withLine s (lineWith (s .line) tally heights small)) []
+  line-noted tally heights small in-tally in-heights in-small changed =
       the-line (record {
         room = λ v. v .room;
         line = λ v is-open.
@@ -108,6 +111,7 @@ module _ {c : Command} (s : Survey) where
               q = before .q;
               tally = in-tally (before .tally);
               heights = in-heights (before .heights);
+              small = in-small (before .small);
               first = before .first;
             };
         finished = λ v. v .finished;
@@ -118,9 +122,9 @@ module _ {c : Command} (s : Survey) where
   trees-added : (class count : ℕ) → inside 7 class 100 ≡ true → leb 1 count ≡ true → leb (s .line .tally .n + count) mostMeasured ≡ true
       → Effect c s (withLine s (withTrees class count (s .line))) []
   trees-added class count in-class some few =
-      line-noted _ _
+      line-noted _ _ _
       (λ before. tallied-valid (s .line .tally) class count before (inside-true 7 class 100 in-class) (leb-true (s .line .tally .n + count) mostMeasured few))
-      (λ before. before)
+      (λ before. before) (λ before. before)
       (λ same. let none : s .line .tally .n + count ≡ s .line .tally .n = ap (λ (l : Line). l .tally .n) same in omega (arith, leb-true 1 count some))
 
   height-added : (cm tenths T : ℕ) → tariffOf (s .line .species) cm tenths ≡ gives T → leb mostHeights (s .line .heights .number) ≡ false
@@ -128,9 +132,17 @@ module _ {c : Command} (s : Survey) where
   height-added cm tenths T gave room =
       let x = s .line .species in
       let in-range = single-tariff-range (x .c1) (x .c2) (x .c3) (x .c4) cm tenths T gave in
-      line-noted _ _ (λ before. before)
-      (λ before. heights-valid (s .line .heights) T before in-range (leb-false mostHeights (s .line .heights .number) room))
+      line-noted _ _ _ (λ before. before)
+      (λ before. heights-valid (s .line .heights) T before in-range (leb-false mostHeights (s .line .heights .number) room)) (λ before. before)
       (λ same. let none : s .line .heights .number + 1 ≡ s .line .heights .number = ap (λ (l : Line). l .heights .number) same in omega arith)
+
+  small-added : (carbon count : ℕ) → inside 1 carbon greatestCarbon ≡ true → inside 1 count mostSmall ≡ true → ltb 0 (s .line .small .count) ≡ false
+      → Effect c s (withLine s (withSmall carbon count (s .line))) []
+  small-added carbon count in-carbon in-count none =
+      line-noted _ _ _ (λ before. before) (λ before. before) (λ before. small-given carbon count in-carbon in-count)
+      (λ same.
+      let again : count ≡ s .line .small .count = ap (λ (l : Line). l .small .count) same in
+      omega (arith, inside-true 1 count mostSmall in-count .least, ltb-false 0 (s .line .small .count) none))
 
   book-ended : s .ended ≡ false → s .active ≡ false → Effect c s (withEnd s) []
   book-ended not-ended none-open =
@@ -156,7 +168,7 @@ closes : (s : Survey) → Gives (RowAdded s) (applyClose s)
 unfolding applyClose
 closes s = search (passed, some-row) depth 8
 
-ruleset checked = (passed, species-given, factor-given, line-opened, trees-added, height-added, book-ended)
+ruleset checked = (passed, species-given, factor-given, line-opened, trees-added, height-added, small-added, book-ended)
 
 -- what a command of the open line makes of the line
 updated : {c : Command} (s : Survey) (after : Report Line) → Gives (λ l. Effect c s (withLine s l) []) after
@@ -169,7 +181,7 @@ updated {c} s after h =
 
 -- every command that is taken changes one of the four
 pub effect : (c : Command) (s : Survey) → Gives (λ t. Effect c s t (closing c s)) (apply c s)
-unfolding declare giveFactor openLine applyMeasured addTrees applyHeight addHeight end
+unfolding declare giveFactor openLine applyMeasured addTrees applyHeight addHeight end giveSmall addSmall
 effect (Command.Species id x) s = search checked depth 12
 effect (Command.Factor cm x) s = search checked depth 12
 effect (Command.Open stratum id p q) s = let byte : Fits (Command.Open stratum id p q) → stratum < 256 = λ fits. fits .0 in search checked depth 12
@@ -179,3 +191,4 @@ effect Command.Close s = λ t e.
     let g = closes s t e in
     subst (λ (x : Survey). Effect Command.Close s x (s ∷ [])) (sym (g .is)) (a-row (g .row) (e ∙ ap gives (g .is)))
 effect Command.End s = search checked depth 12
+effect (Command.Small carbon count) s = updated s (addSmall carbon count (s .line)) (search checked depth 12)

@@ -18,11 +18,11 @@ use Rattle.codec.specs.Reading.{speciesFrom, factorFrom, openFrom, measuredFrom
 use Rattle.codec.specs.Bytes.{storedAt}
 use Rattle.survey.specs.Reader.{encodeAll, reachUpTo, reach}
 use Rattle.line.specs.Line.{newLine, treeWith, Estimate, noTrees, emptyRow}
-use Rattle.survey.specs.Survey.{noLine, fresh, declare, giveFactor, opened, openLine, measure, giveHeight, estimate, closingRow, close, end}
+use Rattle.survey.specs.Survey.{noLine, fresh, declare, giveFactor, opened, openLine, measure, giveHeight, measuredAt, estimate, closingRow, close, end}
 use Rattle.survey.specs.AsWritten.{asWritten}
 use Rattle.survey.specs.Closings.{closings, closingsOf}
 use Rattle.survey.specs.Apply.{applyMeasured, applyHeight, applyClose}
-use Rattle.line.specs.AnyLine.{addTrees, addHeight, worked, lineRow}
+use Rattle.line.specs.AnyLine.{addTrees, addHeight, rowGaining, worked, lineRow}
 use Rattle.survey.specs.Playing.{ended, stepBy, playUpToBy, playBy, play}
 use Rattle.survey.specs.Sheet.{sheetLength, sheetBytes}
 use Rattle.line.specs.Row.{rowLength, rowBytes}
@@ -51,7 +51,7 @@ listingSurvey =
 
 -- its lines, as demand 3 takes them
 abbrev pub listingLines : List Estimate
-listingLines = record { N = 2400; tree = treeWith listed 26 600 101 } ∷ noTrees ∷ []
+listingLines = record { measured = record { N = 2400; tree = treeWith listed 26 600 101 }; small = record { number = 0; carbon = 0 } } ∷ noTrees ∷ []
 
 -- ---- and that it does
 
@@ -60,7 +60,7 @@ unfolding
     listing encodeAll speciesFrom factorFrom openFrom measuredFrom heightFrom commandFrom read
     fresh declare giveFactor opened openLine applyMeasured addTrees applyHeight addHeight applyClose end
     lineRow greatest meanOf mean trees singleTariff lineTariff
-    worked rowBiomass tree stem stemEnds VL VH crown crownEnds root rootEnds
+    worked rowGaining rowBiomass tree stem stemEnds VL VH crown crownEnds root rootEnds
     stepBy playUpToBy play listingSurvey
 listing-played = refl
 
@@ -83,7 +83,7 @@ pub listing-lines : linesOf listing ≡ listingLines
 unfolding
     listing encodeAll speciesFrom factorFrom openFrom measuredFrom heightFrom commandFrom read reachUpTo reach
     fresh declare giveFactor opened openLine measure giveHeight close end
-    greatest meanOf singleTariff estimate closingRow linesOf closingsOf closings
+    greatest meanOf singleTariff measuredAt estimate closingRow linesOf closingsOf closings
 listing-lines = refl
 
 -- which give its rows

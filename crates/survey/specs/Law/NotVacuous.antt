@@ -11,12 +11,14 @@ use lib.IntN.{pos}
 use Rattle.powers.specs.Crown.{w}
 use Rattle.biomass.specs.Root.{y}
 use Rattle.biomass.specs.Fraction.{Fraction, whole, _over_, _≼_}
+use Rattle.biomass.specs.Exact.{Given, NotBelow, NotAbove, exactSmall}
 use Rattle.biomass.specs.Law.Signed.{pos-le}
 use Rattle.biomass.specs.Law.Fraction.{≼-refl, ⊕-mono, ⊗-mono}
 use Rattle.biomass.specs.Law.Power.{units, w-not-above, next-w-not-below, y-not-above, next-y-not-below}
 use Rattle.biomass.specs.Law.Exact.{tree-ordered}
 use Rattle.biomass.specs.Law.Project.{project-ordered}
 use Rattle.line.specs.Line.{Estimate}
+use Rattle.line.specs.Exact.{exactOf}
 use Rattle.survey.specs.Playing.{Played, ended, stopped, play}
 use Rattle.survey.specs.Sheet.{rowsOf}
 use Rattle.survey.specs.Total.{Answer, refusedAt, totalled, sumOf, rowTrees, totalOf, answerOf, total}
@@ -31,41 +33,48 @@ use Rattle.survey.specs.declared.total.Totals.{Totals}
 
 -- w and y of each line, in units of 10^-5, and w + 1 and y + 1
 unfoldable pub fromBelow : List Estimate → Fractions
-fromBelow ls = record { crown = λ i. units (w (lineAt ls i .tree .d)); root = λ i. units (y (lineAt ls i .tree .d)) }
+fromBelow ls = record { crown = λ i. units (w (lineAt ls i .measured .tree .d)); root = λ i. units (y (lineAt ls i .measured .tree .d)) }
 
 unfoldable pub fromAbove : List Estimate → Fractions
-fromAbove ls = record { crown = λ i. units (w (lineAt ls i .tree .d) + 1); root = λ i. units (y (lineAt ls i .tree .d) + 1) }
+fromAbove ls = record { crown = λ i. units (w (lineAt ls i .measured .tree .d) + 1); root = λ i. units (y (lineAt ls i .measured .tree .d) + 1) }
 
 -- whatever the lines, there are fractions that are not above the powers, and fractions that are not below them
 pub some-not-above : (ls : List Estimate) → NoneAbove (fromBelow ls) ls
 unfolding fromBelow
 some-not-above ls i some =
-    let d = lineAt ls i .tree .d in
+    let d = lineAt ls i .measured .tree .d in
     record { on-crown = λ on-curve. w-not-above d; on-root = λ on-curve. y-not-above d }
 
 pub some-not-below : (ls : List Estimate) → NoneBelow (fromAbove ls) ls
 unfolding fromAbove
 some-not-below ls i some =
-    let d = lineAt ls i .tree .d in
+    let d = lineAt ls i .measured .tree .d in
     record { on-crown = λ on-curve. next-w-not-below d; on-root = λ on-curve. next-y-not-below d }
 
 -- ---- they are in order
 
--- a line without trees is in neither sum
-with-trees-ordered : (N : ℕ) {x x′ y y′ : Fraction} → x ≼ x′ → (0 < N → y ≼ y′) → cond (eqb N 0) x y ≼ cond (eqb N 0) x′ y′
-with-trees-ordered zero h k = h
-with-trees-ordered (suc n) h k = rw (eqb·suc-zero n) (k (omega arith))
+-- a line without measured trees has its small trees in both
+lines-ordered : (l : Estimate) (crownPower rootPower crownPower′ rootPower′ : Given) → (0 < l .measured .N → NotAbove (l .measured .tree) crownPower rootPower)
+    → (0 < l .measured .N → NotBelow (l .measured .tree) crownPower′ rootPower′) → exactOf l crownPower rootPower ≼ exactOf l crownPower′ rootPower′
+unfolding exactOf
+lines-ordered l crownPower rootPower crownPower′ rootPower′ above below =
+    let small = ≼-refl (exactSmall (l .small .number) (l .small .carbon)) in
+    with-trees-ordered (l .measured .N) small
+    (λ some.
+    let one = tree-ordered (l .measured .tree) crownPower rootPower crownPower′ rootPower′ (above some) (below some) in
+    ⊕-mono (⊗-mono (whole (pos (l .measured .N)) over 100) (pos-le zero-le) one) small)
+  where
+    with-trees-ordered : (N : ℕ) {x x′ y y′ : Fraction} → x ≼ x′ → (0 < N → y ≼ y′) → cond (eqb N 0) x y ≼ cond (eqb N 0) x′ y′
+    with-trees-ordered zero h k = h
+    with-trees-ordered (suc n) h k = rw (eqb·suc-zero n) (k (omega arith))
 
--- whatever fractions not above the powers and not below them are given: line by line, each tree's values are in order
+-- whatever fractions not above the powers and not below them are given: line by line, the values are in order
 sums-ordered : (g h : Fractions) (ls : List Estimate) → NoneAbove g ls → NoneBelow h ls → exactSum g ls ≼ exactSum h ls
 unfolding exactSum
 sums-ordered g h [] above below = ≼-refl (whole (pos 0))
 sums-ordered g h (l ∷ ls) above below =
-    let rest = sums-ordered (afterFirst g) (afterFirst h) ls (λ i. above (suc i)) (λ i. below (suc i)) in
-    with-trees-ordered (l .N) rest
-    (λ some.
-    let one = tree-ordered (l .tree) (g .crown 0) (g .root 0) (h .crown 0) (h .root 0) (above 0 some) (below 0 some) in
-    ⊕-mono (⊗-mono (whole (pos (l .N)) over 100) (pos-le zero-le) one) rest)
+    ⊕-mono (lines-ordered l (g .crown 0) (g .root 0) (h .crown 0) (h .root 0) (above 0) (below 0))
+    (sums-ordered (afterFirst g) (afterFirst h) ls (λ i. above (suc i)) (λ i. below (suc i)))
 
 pub totals-ordered : (g h : Fractions) (ls : List Estimate) → NoneAbove g ls → NoneBelow h ls → exactTotal g ls ≼ exactTotal h ls
 unfolding exactTotal

@@ -1,6 +1,6 @@
 -- Playing a book: each command that is taken moves on within the book, so that playing comes to an end and stops nowhere but in the book or at its
 -- end: with 1 at the end, and before it with another number of reading or one of applying (Law.Named). What every command keeps is kept to the end of
--- the book; so every survey that a book comes to is valid (Law.Valid), each command does just what document 01's text says (Law.AsWritten), and the
+-- the book; so every survey that a book comes to is valid (Law.Valid), each command does just what the papers' text says (Law.AsWritten), and the
 -- whole book comes to what the text makes of it. What the bytes of a list of commands play to is what the commands do, since each is read back as it
 -- was written (Law.RoundTrip).
 use Prim.Native.Nat.{ℕ, zero, suc, _+_, _≤_, _<_}
@@ -302,7 +302,7 @@ module _ (book : List ℕ) where
   pub place-of-command : (n at : ℕ) → play book ≡ stopped n at → (n ≡ 1 → ⊥) → at < length book
   place-of-command n at e not-one = stop-cases (play-stops n at e) (λ one end. absurd (not-one one)) (λ other before. before)
 
--- ---- a book played by document 01's text alone
+-- ---- a book played by the papers' text alone
 
 -- of a valid survey a command that is read does what the text says
 step-as-written : (book : List ℕ) (at : ℕ) (s : Survey) → Valid s → step book at s ≡ stepBy asWritten book at s

@@ -17,7 +17,7 @@ use Rattle.biomass.specs.Law.Gives.{number-is}
 use Rattle.biomass.specs.Law.Declines.{Declines, gives-declines, unless-declines, cond-declines}
 use Rattle.codec.specs.Bytes.{byte, AllBytes}
 use Rattle.codec.specs.Command.{encode, Fits}
-use Rattle.codec.specs.Reading.{withOperands, speciesFrom, factorFrom, openFrom, measuredFrom, heightFrom, commandFrom, read}
+use Rattle.codec.specs.Reading.{withOperands, speciesFrom, factorFrom, openFrom, measuredFrom, heightFrom, smallFrom, commandFrom, read}
 use Rattle.survey.specs.Reader.{encodeAll, readUpTo, readAll, Reach, stopsAt, inFront, byRead, reachUpTo, reach}
 use Rattle.codec.specs.Law.Bytes.{Stands, nothing, stands-at, stands-first, stands-second, stands-append, taken-stands, stands-itself}
 use Rattle.codec.specs.Law.RoundTrip.{read-at-end, read-encoded, read-is-encoded, read-moves}
@@ -33,7 +33,7 @@ module _ (such : ℕ → Type 0) (s : List ℕ) (two : such 2) (three : such 3) 
       unless-declines such (leb (from + width) (length s)) 3 _ (λ short. three) (λ fits. gives-declines such (c, from + width))
 
   pub read-declines : (at : ℕ) → (length s ≤ at → such 1) → Declines such (read s at)
-  unfolding read commandFrom speciesFrom factorFrom openFrom measuredFrom heightFrom
+  unfolding read commandFrom speciesFrom factorFrom openFrom measuredFrom heightFrom smallFrom
   read-declines at one =
       let b = byte s at in
       unless-declines such (ltb at (length s)) 1 _ (λ out. one (ltb-false at (length s) out)) (λ inside.
@@ -44,7 +44,8 @@ module _ (such : ℕ → Type 0) (s : List ℕ) (two : such 2) (three : such 3) 
       (cond-declines such (eqb b 5) _ _ (with-operands-declines (at + 1) 3 _)
       (cond-declines such (eqb b 6) _ _ (gives-declines such (Close, at + 1))
       (cond-declines such (eqb b 7) _ _ (gives-declines such (End, at + 1))
-      (λ n e. subst such (number-is e) two))))))))
+      (cond-declines such (eqb b 8) _ _ (with-operands-declines (at + 1) 8 _)
+      (λ n e. subst such (number-is e) two)))))))))
 
 -- with 1 only at the end and past it
 pub one-only-at-end : (s : List ℕ) (at n : ℕ) → read s at ≡ refused n → n ≡ 1 → length s ≤ at

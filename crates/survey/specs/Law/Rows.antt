@@ -1,4 +1,4 @@
--- No figure of a row is cut off in the sheet. T, d, N, low and high are within those of the greatest row, since steps 4 to 7 answered them (Law.Closing);
+-- No figure of a row is cut off in the sheet. T, d, N, low and high are within those of the greatest line, since they were worked (Law.Closing);
 -- a stratum is one byte of the book, and a species one of 16. So whoever reads the sheet finds the rows of the survey.
 use Prim.Native.Nat.{ℕ, _≤_, _<_}
 use native.Mathlib.Omega.{arith}

@@ -1,4 +1,4 @@
--- The sums of rows, as the code makes them: one row after the other, none past 64 bits, since no row is above the greatest one and 32 of those fit.
+-- The sums of rows, as the code makes them: one row after the other, none past 64 bits, since no row is above the greatest line and 32 of those fit.
 use Prim.Native.Nat.{ℕ, zero, suc, _+_, _*_, _≤_, _<_, zero-le}
 use native.Mathlib.Omega.{arith}
 use mathlib.Core.Path.{_≡_}
@@ -6,18 +6,17 @@ use mathlib.Core.List.{List, [], _∷_}
 use lib.ListN.{length, getD, take}
 use lib.Dec.{lit≤}
 use Rattle.biomass.specs.Report.{gives}
-use Rattle.biomass.specs.Limits.{mostEstimated}
 use Rattle.biomass.specs.Project.{projectOf, project}
 use Rattle.biomass.specs.Law.Answers.{project-answers}
-use Rattle.biomass.specs.Law.Tree.{greatestRow}
+use Rattle.line.specs.Law.Estimate.{mostOfBoth, greatestLine}
 use Rattle.rules.specs.Checks.{mostLines}
 use Rattle.survey.specs.Total.{sumOf, rowTrees, lowOf, highOf, sums}
 use Rattle.line.specs.declared.row.Row.{Row}
 
--- rows whose figures are within those of the greatest row (biomass/specs/Law/Tree.antt), as those of a valid survey are (Law.Demand3: rows-small)
+-- rows whose figures are within those of the greatest line (line/specs/Law/Estimate.antt), as those of a valid survey are (Law.Demand3: rows-small)
 pub data RowsSmall : List Row → Type 0 where
   none : RowsSmall []
-  more : (r : Row) (rs : List Row) → r .trees ≤ mostEstimated → lowOf r ≤ highOf r → highOf r ≤ greatestRow → RowsSmall rs → RowsSmall (r ∷ rs)
+  more : (r : Row) (rs : List Row) → r .trees ≤ mostOfBoth → lowOf r ≤ highOf r → highOf r ≤ greatestLine → RowsSmall rs → RowsSmall (r ∷ rs)
 
 -- and so the first of them
 pub first-small : (i n : ℕ) (rows : List Row) → i ≤ n → RowsSmall (take n rows) → RowsSmall (take i rows)
@@ -29,7 +28,7 @@ first-small (suc i) (suc n) (r ∷ rows) h (RowsSmall.more x xs few ordered most
 
 -- of small rows, each sum is at most the number of rows times the greatest figure
 pub sums-small : (rows : List Row) → RowsSmall rows
-    → (sumOf rowTrees rows ≤ mostEstimated * length rows) × (sumOf highOf rows ≤ greatestRow * length rows) × (sumOf lowOf rows ≤ sumOf highOf rows)
+    → (sumOf rowTrees rows ≤ mostOfBoth * length rows) × (sumOf highOf rows ≤ greatestLine * length rows) × (sumOf lowOf rows ≤ sumOf highOf rows)
 unfolding sumOf
 sums-small rows RowsSmall.none = (lit≤ tt, lit≤ tt, lit≤ tt)
 sums-small rows (RowsSmall.more r rs few ordered small h) = let rest = sums-small rs h in omega arith

@@ -11,7 +11,7 @@ use Rattle.survey.specs.Total.{Answer, refusedAt, totalled, short, answe
 use Rattle.survey.specs.Law.Named.{in-other}
 use Rattle.survey.specs.Law.Playing.{inTheBook, Stop, stop-cases, play-stops, play-as-written}
 
--- "a book is accepted exactly when those rules accept it" (demand 2): totalling is defined by document 01's text, and playing the book by `apply`, with the
+-- "a book is accepted exactly when those rules accept it" (demand 2): totalling is defined by the papers' text, and playing the book by `apply`, with the
 -- checks that it has besides, comes to the same answer and the same sheet
 pub total-applied : (book sheet : List ℕ) → total book sheet ≡ answerInto sheet (play book)
 unfolding total

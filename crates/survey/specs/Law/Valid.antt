@@ -79,6 +79,7 @@ line-stays s t l same rows v =
       q = v .q;
       tally = v .tally;
       heights = v .heights;
+      small = v .small;
       first = ap (anyLine (l .stratum) (l .id)) rows ∙ v .first;
     }
 
@@ -158,7 +159,7 @@ close-valid s t v e =
       lines = omega (arith, g .room);
       room = λ is-open. absurd (false≢true is-open);
       rows = λ i h.
-          set-cases Within (s .rows) (s .closed) i r (emptyRow noLine) fits (λ same. g .worked .within) (λ other. v .rows i (omega arith));
+          set-cases Within (s .rows) (s .closed) i r (emptyRow noLine) fits (λ same. g .within) (λ other. v .rows i (omega arith));
       apart = rw (add-one, take-suc-set (s .rows) (s .closed) r fits) (apart-after r (v .apart) (v .line (g .is-open) .first));
       line = λ is-open. absurd (false≢true is-open);
       finished = λ ended. refl;

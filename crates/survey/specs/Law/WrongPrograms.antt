@@ -30,7 +30,8 @@ use Rattle.codec.specs.Reading.{speciesFrom, factorFrom, openFrom, measuredFrom
 use Rattle.survey.specs.Reader.{encodeAll}
 use Rattle.survey.specs.Survey.{fresh, declare, giveFactor, opened, openLine, end}
 use Rattle.survey.specs.Apply.{applyMeasured, applyHeight, applyClose}
-use Rattle.line.specs.AnyLine.{addTrees, addHeight, worked, lineRow}
+use Rattle.line.specs.Exact.{exactOf}
+use Rattle.line.specs.AnyLine.{addTrees, addHeight, rowGaining, worked, lineRow}
 use Rattle.survey.specs.Playing.{stepBy, playUpToBy, play}
 use Rattle.survey.specs.Sheet.{sheetLength, sheetBytes}
 use Rattle.line.specs.Row.{rowLength, rowBytes}
@@ -50,7 +51,7 @@ secondLine = encodeAll (species3 ∷ line2 ∷ Command.Close ∷ Command.End ∷
 
 second-sheet : (sheet : List ℕ) → sheetLength ≤ length sheet → sheetAfter secondLine sheet ≡ rowBytes row2 ++ drop rowLength sheet
 unfolding
-    secondLine encodeAll speciesFrom openFrom commandFrom read fresh declare opened openLine lineRow applyClose end stepBy playUpToBy play
+    secondLine encodeAll speciesFrom openFrom commandFrom read fresh declare opened openLine trees rowGaining lineRow applyClose end stepBy playUpToBy play
     storedAt sheetBytes rowBytes
 second-sheet sheet room = sheet-applied secondLine sheet ∙ rw (le-ltb (length sheet) sheetLength room)
 
@@ -69,7 +70,7 @@ one-tree : (sheet : List ℕ) → sheetLength ≤ length sheet → (treesBack (t
 unfolding
     oneTree encodeAll speciesFrom factorFrom openFrom measuredFrom heightFrom commandFrom read
     fresh declare giveFactor opened openLine applyMeasured addTrees applyHeight addHeight applyClose end
-    lineRow greatest meanOf mean trees singleTariff lineTariff worked rowBiomass tree stem crown root
+    lineRow greatest meanOf mean trees singleTariff lineTariff worked rowGaining rowBiomass tree stem crown root
     stepBy playUpToBy play totalOf sumOf storedAt sheetBytes rowBytes
 one-tree sheet room =
     let long = le-ltb (length sheet) sheetLength room in
@@ -156,7 +157,7 @@ module _ {sheet after : List ℕ} {r : Answer} (room : sheetLength ≤ length sh
 
 -- To 3, alone: with a low of 0 the high is at most 3 + 2400 div 1000, which is 5, and the exact value, of a tree that uses no power, is above that
 pub zero-low-not-demand-3 : (high : ℕ) → Demand3 (linesOf listing) 0 high → ⊥
-unfolding treesAdded exactSum exactTotal exactStem exactCrown exactRoot
+unfolding treesAdded exactOf exactSum exactTotal exactStem exactCrown exactRoot
 zero-low-not-demand-3 high demand =
     let d : Demand3 listingLines 0 high = rw listing-lines at demand in
     let high-at-most-5 : high ≤ 5 = d .gap in

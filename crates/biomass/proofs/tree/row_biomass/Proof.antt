@@ -1,23 +1,19 @@
 -- `biomass::tree::row_biomass` meets its contract: each test of the code is the definition's; a tree and the number of trees have their greatest, so that
 -- the products fit.
-use Prim.Native.Nat.{ℕ, _+_, _*_, _/_, _^_, _≤_, _<_}
-use native.Mathlib.Omega.{arith}
+use Prim.Native.Nat.{ℕ, _*_, _^_, _<_}
 use native.Mathlib.Nat.{mul-le-mul, le-trans, lt-of-le-of-lt}
 use mathlib.Core.Path.{_≡_, _∙_, sym, ap}
-use mathlib.Core.Bool.{cond}
-use mathlib.Core.Logic.{_≢_}
-use lib.Dec.{eqb, lit<, lit≤}
+use lib.Dec.{lit<, lit≤}
 use borrow.Author.Needs.{needs}
-use borrow.Author.Tests.{eq-eqb, ne-eqb}
-use Rattle.biomass.specs.Report.{biomass, gives}
+use Rattle.biomass.specs.Report.{biomass}
 use Rattle.biomass.specs.Limits.{mostEstimated}
-use Rattle.biomass.specs.Ends.{between}
 use Rattle.biomass.specs.Tree.{tree, rowBiomass}
 use Rattle.biomass.specs.Law.Report.{Inside, refuses, goes-on, ranges, follows-biomass, stops-biomass}
 use Rattle.biomass.specs.Law.Tree.{TreeBounds, tree-bounds}
 use Rattle.biomass.specs.declared.units.BiomassRange.{BiomassRange}
 use Rattle.biomass.specs.declared.report.Biomass.{Biomass}
 use Rattle.biomass.specs.declared.tree.AverageTree.{AverageTree}
+use Rattle.biomass.proofs.Hundredths.{end-fits, of-none, of-some}
 use Rattle.biomass.proofs.tree.row_biomass.Statement.{statement}
 use Rattle.biomass.proofs.tree.row_biomass.Tie as tie
 
@@ -32,18 +28,6 @@ module _ {N : ℕ} {answer : Biomass} {m : BiomassRange} (t : AverageTree)
 
   low-fits : N * m .low .0 < 2 ^ 64
   low-fits = lt-of-le-of-lt (mul-le-mul (number .most) (le-trans (bounds .ordered) (bounds .small))) (lit< tt)
-
--- a hundredth of what fits, and at most 1 more
-end-fits : (x n : ℕ) → x < 2 ^ 64 → n ≤ 1 → x / 100 + n < 2 ^ 64
-end-fits x n h k = omega arith
-
--- the row, of no trees and of some: x is the high of none, and y of some
-module _ {N : ℕ} (low x y : ℕ) where
-  of-none : N ≡ 0 → gives (between low x) ≡ gives (between low (cond (eqb N 0) x y))
-  of-none none = rw (eq-eqb N 0 none)
-
-  of-some : N ≢ 0 → gives (between low y) ≡ gives (between low (cond (eqb N 0) x y))
-  of-some some = rw (ne-eqb N 0 some)
 
 -- the test, the tree and the row
 ruleset rows = (refuses, goes-on, follows-biomass, stops-biomass, of-none, of-some)

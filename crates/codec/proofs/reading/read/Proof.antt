@@ -65,10 +65,14 @@ returns-9 : tie.Need-returns-9
 unfolding commandFrom
 returns-9 c = again _ _ (search) (search chosen)
 
--- no command has another byte
 returns-10 : tie.Need-returns-10
 unfolding commandFrom
-returns-10 c = again _ _ (search) (search (inside, if-not, ne-eqb) depth 20)
+returns-10 c = again _ _ (search) (search chosen)
+
+-- no command has another byte
+returns-11 : tie.Need-returns-11
+unfolding commandFrom
+returns-11 c = again _ _ (search) (search (inside, if-not, ne-eqb) depth 20)
 
 pub read-spec : {M : Type 1} → statement M
 read-spec =
@@ -82,6 +86,7 @@ read-spec =
     (λ c κs. omega arith)
     (λ c κs. omega arith)
     (λ c κs. omega arith)
+    (λ c κs. omega arith)
     returns-2
     returns-3
     returns-4
@@ -90,4 +95,5 @@ read-spec =
     returns-7
     returns-8
     returns-9
-    returns-10)
+    returns-10
+    returns-11)

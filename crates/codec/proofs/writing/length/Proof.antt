@@ -27,6 +27,8 @@ length-spec =
     (λ c. search needs)
     (λ c. search needs)
     (λ c. search needs)
+    (λ c. search needs)
+    (λ c. omega (arith, length-as))
     (λ c. omega (arith, length-as))
     (λ c. omega (arith, length-as))
     (λ c. omega (arith, length-as))

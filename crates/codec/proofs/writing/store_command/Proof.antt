@@ -9,10 +9,10 @@ use borrow.Author.Needs.{needs}
 use Rattle.codec.specs.Bytes.{bytes, storedAt}
 use Rattle.codec.specs.Command.{encode, Fits}
 use Rattle.codec.specs.Law.Bytes.{mag-fits, byte-alone}
-use Rattle.codec.specs.Law.Storing.{Stored, Stores, fits-stored, next-stored, stores-keep}
+use Rattle.codec.specs.Law.Storing.{Stored, Stores, fits-stored, next-stored}
 use Rattle.codec.specs.declared.command.Species as Declared
 use Rattle.codec.specs.declared.command.Command.{Command}
-use Rattle.codec.specs.declared.command.Command.the-variants.{Species, Factor, Open, Measured, Height, Close, End}
+use Rattle.codec.specs.declared.command.Command.the-variants.{Species, Factor, Open, Measured, Height, Close, End, Small}
 use Rattle.codec.proofs.writing.store_command.Statement.{statement}
 use Rattle.codec.proofs.writing.store_command.Tie as tie
 
@@ -42,6 +42,14 @@ module _ (b : List ℕ) (at : ℕ) where
   end-stored : {d : List ℕ} {q : ℕ} → Stores b at (7 ∷ []) d q → Command-stored d (λ k. k ≡ End)
   end-stored only k room is = stored-as b at is (fits-stored b at (7 ∷ []) (omega (arith, room-as is)) only .0)
 
+  -- its byte, and then two operands of four bytes
+  small-stored : {c d e : List ℕ} {p q o : ℕ} (carbon count : ℕ) → Stores b at (8 ∷ []) c p → Stores c p (bytes 4 carbon) d q → Stores d q (bytes 4 count) e o →
+      Command-stored e (λ k. k ≡ Small carbon count)
+  small-stored carbon count first second third k room is =
+      let long = room-as is in
+      let with-carbon = next-stored b at (8 ∷ []) (bytes 4 carbon) (omega arith) (fits-stored b at (8 ∷ []) (omega arith) first) second in
+      stored-as b at is (next-stored b at (8 ∷ bytes 4 carbon) (bytes 4 count) (omega arith) with-carbon third .0)
+
   module _ (x y : ℕ) {c : List ℕ} {p : ℕ} (first : Stores b at (x ∷ y ∷ []) c p) where
     -- its byte and an operand of one byte, and then m
     two-then : {d : List ℕ} {q : ℕ} (m : List ℕ) → Stores c p m d q → at + length (x ∷ y ∷ m) ≤ length b → Stored b at (x ∷ y ∷ m) d q
@@ -65,13 +73,6 @@ module _ (b : List ℕ) (at : ℕ) where
         let long = room-as is in
         let with-net = next-stored b at (x ∷ y ∷ id ∷ []) (bytes 4 net) (omega arith) (byte-then id second fits (omega arith)) third in
         stored-as b at is (rw three at (next-stored b at (x ∷ y ∷ id ∷ bytes 4 net) (bytes 4 plot) (omega arith) with-net fourth .0))
-
-same-length-3 : tie.Need-same-length-3
-same-length-3 c =
-    let net = c .before .before .before .before .before .before in
-    let id = net .before .before .before .before in
-    stores-keep _ _ _ (c .before .before .store4 .ensures) ∙ stores-keep _ _ _ (net .store3 .ensures) ∙ stores-keep _ _ _ (id .store2 .ensures)
-    ∙ stores-keep _ _ _ (id .before .before .before .before .store-pair2 .ensures)
 
 pub store-command-spec : {M : Type 1} → statement M
 store-command-spec =
@@ -103,11 +104,17 @@ store-command-spec =
     (λ c κs. tt)
     (λ c. search needs)
     (λ c κs. tt)
+    (λ c. search needs)
+    (λ c κs. tt)
+    (λ c. omega arith)
+    (λ c κs. tt)
+    (λ c. omega arith)
+    (λ c κs. tt)
     (λ c. search)
     (λ c. (search stored-as, search (fits-as, mag-fits)))
     (λ c. search)
     (λ c. search (factor-stored _ _ _ _ (c .before .before .before .before .before .before .store-pair .ensures) _ (c .before .before .store .ensures), fits-as))
-    same-length-3
+    (λ c. omega arith)
     (λ c. search (
       open-stored _ _ _ _
           (c .before .before .before .before .before .before .before .before .before .before .before .before .before .before .store-pair2 .ensures) _ _ _
@@ -122,4 +129,10 @@ store-command-spec =
     (λ c. search)
     (λ c. search (close-stored _ _ (c .before .before .store7 .ensures), fits-as))
     (λ c. search)
-    (λ c. search (end-stored _ _ (c .before .before .store8 .ensures), fits-as)))
+    (λ c. search (end-stored _ _ (c .before .before .store8 .ensures), fits-as))
+    (λ c. omega arith)
+    (λ c. search (
+      small-stored _ _ _ _ (c .before .before .before .before .before .before .before .before .before .before .store9 .ensures)
+          (c .before .before .before .before .before .before .store10 .ensures) (c .before .before .store11 .ensures),
+      fits-as,
+    )))

@@ -34,15 +34,23 @@ returns-7 : tie.Need-returns-7
 unfolding Numbers.cut
 returns-7 c = rw (c .match .keys7)
 
--- no command has another byte
 returns-8 : tie.Need-returns-8
 unfolding Numbers.cut
-returns-8 c = search (if-not, ne-eqb) depth 20
+returns-8 c = rw (c .match .keys8)
+
+-- no command has another byte
+returns-9 : tie.Need-returns-9
+unfolding Numbers.cut
+returns-9 c = search (if-not, ne-eqb) depth 20
 
 pub cut-spec : {M : Type 1} → statement M
 cut-spec =
     tie.close
     (tie.spec
+    (λ c. omega arith)
+    (λ c. omega arith)
+    (λ c. omega arith)
+    (λ c. omega arith)
     (λ c. omega arith)
     (λ c. omega arith)
     (λ c. omega arith)
@@ -62,4 +70,5 @@ cut-spec =
     returns-5
     returns-6
     returns-7
-    returns-8)
+    returns-8
+    returns-9)

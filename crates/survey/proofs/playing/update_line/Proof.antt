@@ -1,4 +1,4 @@
--- `survey::playing::update_line` meets its contract, by cases on what was read: measured trees and a height tree are the line's own, any other command is not.
+-- `survey::playing::update_line` meets its contract, by cases on what was read: the line is updated by measured trees and a height tree, and by no other command.
 use Prim.Native.Nat.{ℕ}
 use mathlib.Core.Path.{_≡_, _∙_, refl, sym, ap}
 use mathlib.Core.List.{[], _∷_}
@@ -36,14 +36,15 @@ by-line : {answered after : Report Line} {x : Report Update} (next : ℕ) → an
 by-line next promise e = e ∙ ap (updatedTo next) promise
 
 -- the commands of the other tags are not the line's own
-others : (k : Command) (next : ℕ) (l : Line) → OneOf (0 ∷ 1 ∷ 2 ∷ 5 ∷ 6 ∷ []) (tagOf the-type k) → gives otherCommand ≡ updateBy next (ownOf k l)
+others : (k : Command) (next : ℕ) (l : Line) → OneOf (0 ∷ 1 ∷ 2 ∷ 5 ∷ 6 ∷ 7 ∷ []) (tagOf the-type k) → gives otherCommand ≡ updateBy next (ownOf k l)
 others (Command.Species id species) next l one = refl
 others (Command.Factor cm factor) next l one = refl
 others (Command.Open stratum species p q) next l one = refl
-others (Command.Measured class count) next l one = absurd (miss (0 ∷ 1 ∷ 2 ∷ 5 ∷ 6 ∷ []) 3 tt one)
-others (Command.Height cm tenths) next l one = absurd (miss (0 ∷ 1 ∷ 2 ∷ 5 ∷ 6 ∷ []) 4 tt one)
+others (Command.Measured class count) next l one = absurd (miss (0 ∷ 1 ∷ 2 ∷ 5 ∷ 6 ∷ 7 ∷ []) 3 tt one)
+others (Command.Height cm tenths) next l one = absurd (miss (0 ∷ 1 ∷ 2 ∷ 5 ∷ 6 ∷ 7 ∷ []) 4 tt one)
 others Command.Close next l one = refl
 others Command.End next l one = refl
+others (Command.Small carbon count) next l one = refl
 
 pub update-line-spec : {M : Type 1} → statement M
 unfolding updateLine

@@ -5,9 +5,8 @@ use native.Mathlib.Numerals.{add-one}
 use mathlib.Core.Path.{_≡_, _∙_, refl, sym, ap, ap₂}
 use lib.ListN.{length, getD, take}
 use lib.Seq.{length-take-le}
-use Rattle.biomass.specs.Limits.{mostEstimated}
 use Rattle.biomass.specs.Ends.{between}
-use Rattle.biomass.specs.Law.Tree.{greatestRow}
+use Rattle.line.specs.Law.Estimate.{mostOfBoth, greatestLine}
 use Rattle.rules.specs.Checks.{mostLines}
 use Rattle.survey.specs.Total.{sumOf, rowTrees, lowOf, highOf}
 use Rattle.survey.specs.Law.Sums.{first-small, sums-small, sum-one-more}
@@ -46,10 +45,10 @@ grown c figure is =
     ap (λ (n : ℕ). n + figure (row-of c)) is
     ∙ sym (rw add-one (sum-one-more figure (c .before .before .args .t1) (c .before .loop .i) _ (kept c)))
 
--- and stays within 32 of the greatest rows
+-- and stays within 32 of the greatest lines
 bounded : (c : tie.In-loop Inv-loop μ-loop) →
     let first = take (c .before .loop .i + 1) (c .before .before .args .t1) in
-    (sumOf rowTrees first ≤ mostEstimated * mostLines) × (sumOf lowOf first ≤ greatestRow * mostLines) × (sumOf highOf first ≤ greatestRow * mostLines)
+    (sumOf rowTrees first ≤ mostOfBoth * mostLines) × (sumOf lowOf first ≤ greatestLine * mostLines) × (sumOf highOf first ≤ greatestLine * mostLines)
 bounded c =
     let rows = c .before .before .args .t1 in
     let i = c .before .loop .i in

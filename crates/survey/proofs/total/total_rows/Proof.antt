@@ -1,4 +1,4 @@
--- `survey::total::total_rows` meets its contract. At most 32 rows, each within the greatest row: `project` does not decline their sums.
+-- `survey::total::total_rows` meets its contract. At most 32 rows, each within the greatest line: `project` does not decline their sums.
 use Prim.Native.Nat.{ℕ, _≤_}
 use native.Mathlib.Omega.{arith}
 use mathlib.Core.Path.{_≡_, _∙_, sym, ap, ap₂}

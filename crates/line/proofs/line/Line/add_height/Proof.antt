@@ -1,10 +1,9 @@
 -- `line::line::Line::add_height` meets its contract: the single tariff's refusal is the line's, and then each test of the code is the definition's.
-use Prim.Native.Nat.{ℕ, _≤_}
-use native.Mathlib.Nat.{le-trans}
+use Prim.Native.Nat.{ℕ, _+_, _^_, _≤_, _<_}
+use native.Mathlib.Omega.{arith}
 use mathlib.Core.Path.{_≡_, _∙_, sym, ap}
 use borrow.Author.Needs.{needs}
 use borrow.Author.Tests.{le-leb, lt-leb}
-use lib.Dec.{lit≤}
 use Rattle.biomass.specs.Report.{count}
 use Rattle.biomass.specs.Law.Report.{stop-unless, past-unless, follows-count, stops-count, stop-when, past-when}
 use Rattle.biomass.specs.Law.Tariff.{single-tariff-range}
@@ -12,14 +11,16 @@ use Rattle.biomass.specs.declared.report.Count.{Count}
 use Rattle.line.specs.Line.{tariffOf}
 use Rattle.line.specs.AnyLine.{mostTariffs, addHeight}
 use Rattle.codec.specs.declared.command.Species.{Species}
-use Rattle.line.proofs.Limit.{above-limit, within-limit}
 use Rattle.line.proofs.line.Line.add_height.Statement.{statement}
 use Rattle.line.proofs.line.Line.add_height.Tie as tie
 
-small : (T : ℕ) (s : Species) (cm tenths : ℕ) {answer : Count} → count answer ≡ tariffOf s cm tenths → answer ≡ Count.Is T → T ≤ mostTariffs
-small T s cm tenths asked is = le-trans (single-tariff-range (s .c1) (s .c2) (s .c3) (s .c4) cm tenths T (sym asked ∙ ap count is) .most) (lit≤ tt)
+-- the tariff that is added is 50 at most
+sum-fits : (T tariffs : ℕ) (s : Species) (cm tenths : ℕ) {answer : Count} → count answer ≡ tariffOf s cm tenths → answer ≡ Count.Is T → tariffs ≤ mostTariffs
+    → tariffs + T < 2 ^ 64
+sum-fits T tariffs s cm tenths asked is few =
+    omega (arith, single-tariff-range (s .c1) (s .c2) (s .c3) (s .c4) cm tenths T (sym asked ∙ ap count is))
 
-ruleset line-checks = (stop-when, past-when, stop-unless, past-unless, follows-count, stops-count, le-leb, lt-leb, above-limit, within-limit, small)
+ruleset line-checks = (stop-when, past-when, stop-unless, past-unless, follows-count, stops-count, le-leb, lt-leb)
 
 pub add-height-spec : {M : Type 1} → statement M
 unfolding addHeight
@@ -32,8 +33,7 @@ add-height-spec =
     (λ c κs. tt)
     (λ c. search line-checks depth 14)
     (λ c. search line-checks depth 14)
-    (λ c. search small)
     (λ c. search line-checks depth 14)
     (λ c. search needs)
-    (λ c. search needs)
+    (λ c. search sum-fits)
     (λ c. search line-checks depth 14))

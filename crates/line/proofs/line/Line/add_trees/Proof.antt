@@ -30,13 +30,13 @@ module _ {answer : Bool} (class : ℕ) (told : answer ≡ inside 7 class 100) (p
   squares-fit : (count : ℕ) → count < 65536 → count * (class * class) < 2 ^ 64
   squares-fit count n = lt-of-le-of-lt (squares-few count n) (lit< tt)
 
-sum-fits : (x y : ℕ) → y ≤ mostSquares → x ≤ mostSquares - y → x + y < 2 ^ 64
+sum-fits : (x y : ℕ) → y ≤ mostSquares → x ≤ mostSquares → x + y < 2 ^ 64
 sum-fits x y few rest = omega arith
 
 trees-few : (count : ℕ) → count < 65536 → count ≤ mostMeasured
 trees-few count n = omega arith
 
-ruleset line-checks = (refuses, goes-on, stop-unless, past-unless, le-leb, lt-leb, above-limit, within-limit, squares-few, trees-few)
+ruleset line-checks = (refuses, goes-on, stop-unless, past-unless, le-leb, lt-leb, above-limit, within-limit, trees-few)
 
 pub add-trees-spec : {M : Type 1} → statement M
 unfolding addTrees
@@ -48,10 +48,9 @@ add-trees-spec =
     (λ c. search line-checks depth 14)
     (λ c. omega arith)
     (λ c. search line-checks depth 14)
-    (λ c. search square-fits)
-    (λ c. search squares-fit)
-    (λ c. search squares-few)
     (λ c. search line-checks depth 14)
     (λ c. search needs)
+    (λ c. search square-fits)
+    (λ c. search squares-fit)
     (λ c. search (sum-fits, squares-few))
     (λ c. search line-checks depth 14))

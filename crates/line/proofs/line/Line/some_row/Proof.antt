@@ -4,15 +4,16 @@ use Prim.Native.Nat.{ℕ, _/_, _<_}
 use native.Mathlib.Omega.{arith}
 use mathlib.Core.Path.{_≡_, _∙_, sym, ap}
 use borrow.Author.Needs.{needs}
-use borrow.Author.Tests.{eq-eqb, ne-eqb, le-leb, lt-leb}
+use borrow.Author.Tests.{eq-eqb, ne-eqb}
 use Rattle.biomass.specs.Report.{count}
 use Rattle.powers.specs.Diameter.{unitsToCm, leastD, greatestD}
 use Rattle.biomass.specs.Tariff.{lineTariff}
 use Rattle.biomass.specs.Mean.{mean}
-use Rattle.biomass.specs.Law.Report.{Inside, stop-unless, past-unless, follows-count, stops-count, stop-when, past-when}
+use Rattle.biomass.specs.Law.Report.{Inside, follows-count, stops-count, stop-when, past-when}
 use Rattle.biomass.specs.Law.Mean.{mean-gives}
 use Rattle.biomass.specs.Law.Tariff.{line-tariff-range}
 use Rattle.biomass.specs.declared.report.Count.{Count}
+use Rattle.line.proofs.Scaled.{follows-scaled, stops-scaled, scaled-few}
 use Rattle.line.proofs.line.Line.some_row.Statement.{statement}
 use Rattle.line.proofs.line.Line.some_row.Tie as tie
 
@@ -26,10 +27,10 @@ d-place n squares d promise is = omega (arith, d-range n squares d promise is)
 T-range : (tariffs number T : ℕ) {answer : Count} → count answer ≡ lineTariff tariffs number → answer ≡ Count.Is T → Inside 1 T 50
 T-range tariffs number T promise is = line-tariff-range tariffs number T (sym promise ∙ ap count is)
 
-ruleset row-checks = (stop-when, past-when, stop-unless, past-unless, follows-count, stops-count, eq-eqb, ne-eqb, le-leb, lt-leb)
+ruleset row-checks = (stop-when, past-when, follows-count, stops-count, follows-scaled, stops-scaled, eq-eqb, ne-eqb)
 
 worked-requires : tie.Need-worked-requires
-worked-requires c κs = (search T-range, search d-range, search)
+worked-requires c κs = (search T-range, search d-range, search scaled-few, search scaled-few)
 
 pub some-row-spec : {M : Type 1} → statement M
 some-row-spec =
@@ -42,13 +43,13 @@ some-row-spec =
     (λ c. search row-checks depth 16)
     (λ c. search d-place)
     (λ c. search row-checks depth 16)
-    (λ c. search needs)
-    (λ c. search needs)
     (λ c κs. tt)
     (λ c. search needs)
     (λ c. search needs)
-    (λ c κs. tt)
     (λ c. search row-checks depth 16)
+    (λ c κs. tt)
+    (λ c. search needs)
+    (λ c. search needs)
     (λ c. search row-checks depth 16)
     (λ c κs. tt)
     (λ c. search needs)
