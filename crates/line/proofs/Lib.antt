@@ -1,3 +1,2 @@
 -- Laws that the proofs of several routines share.
-pub mod Limit
 pub mod Scaled

@@ -3,7 +3,7 @@ use Prim.Native.Nat.{ℕ, _≤_}
 use mathlib.Core.Path.{_≡_, _∙_, sym, ap, subst}
 use lib.Dec.{leb}
 use borrow.Author.Tests.{leb-true}
-use Rattle.biomass.specs.Report.{Report, refused, gives, _then_}
+use Rattle.biomass.specs.Report.{Report, refused, _then_}
 use Rattle.biomass.specs.Limits.{mostEstimated}
 use Rattle.biomass.specs.Trees.{trees}
 use Rattle.biomass.specs.Law.Gives.{made, figure-is, test-passed}

@@ -1,5 +1,4 @@
 -- The exact value of one line, in mg.
-use Prim.Native.Nat.{ℕ}
 use mathlib.Core.Bool.{cond}
 use lib.Dec.{eqb}
 use Rattle.biomass.specs.Fraction.{Fraction, _⊕_}

@@ -93,7 +93,7 @@ fn tariff_of(s: Species, cm: u8, tenths: u16) -> Count
     single_tariff(s.c1, s.c2, s.c3, s.c4, cm as u64, tenths as u64)
 }
 
-// That of no tree.
+// The biomass of no tree.
 fn no_biomass() -> BiomassRange
     ensures { λ r. ⌜ r ≡ between 0 0 ⌝ }
 {

@@ -3,22 +3,22 @@
 use Prim.Native.Nat.{ℕ, zero, suc, _+_, _*_, _≤_, _<_}
 use native.Mathlib.Nat.{mul-pos, zero-add, zero-mul}
 use native.Mathlib.Omega.{arith}
-use mathlib.Core.Path.{_≡_, sym, subst}
+use mathlib.Core.Path.{_≡_}
 use lib.IntN.{pos}
 use Rattle.biomass.specs.Report.{gives}
 use Rattle.biomass.specs.Limits.{mostEstimated, greatestCarbon}
 use Rattle.biomass.specs.Tree.{treeOf, rowBiomass, rowLow, rowHigh, rowOf}
-use Rattle.biomass.specs.SmallTrees.{smallLow, smallHigh, smallOf}
+use Rattle.biomass.specs.SmallTrees.{smallLow, smallHigh}
 use Rattle.biomass.specs.Fraction.{Fraction, whole, _≼_}
 use Rattle.biomass.specs.Exact.{Given, NotBelow, NotAbove}
 use Rattle.biomass.specs.Law.Fraction.{⊕-mono, whole-⊕}
 use Rattle.biomass.specs.Law.Exact.{row-den, row-not-under, row-not-over}
 use Rattle.biomass.specs.Law.Tree.{RowBounds, greatestRow, none-bounds, row-bounds}
-use Rattle.biomass.specs.Law.SmallTrees.{SmallBounds, greatestSmall, small-bounds, small-not-under, small-not-over, small-den}
+use Rattle.biomass.specs.Law.SmallTrees.{greatestSmall, small-bounds, small-not-under, small-not-over, small-den}
 use Rattle.biomass.specs.Law.Project.{none-or-some}
 use Rattle.biomass.specs.declared.units.BiomassRange.{BiomassRange}
 use Rattle.biomass.specs.declared.tree.AverageTree.{AverageTree}
-use Rattle.line.specs.Line.{MeasuredPart, Estimate, bothNumbers, biomassOf}
+use Rattle.line.specs.Line.{Estimate, bothNumbers, biomassOf}
 use Rattle.line.specs.Exact.{exactOf}
 
 -- what is estimated of a line that closes: steps 4 to 7 answer its measured part where N is above 0, and the small trees are in their ranges

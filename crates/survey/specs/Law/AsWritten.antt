@@ -6,7 +6,7 @@ use native.Mathlib.Omega.{arith}
 use mathlib.Core.Path.{_≡_, _∙_, refl, sym, ap, subst}
 use mathlib.Core.Bool.{Bool, true, false, cond}
 use lib.Dec.{leb, eqb}
-use borrow.Author.Tests.{leb-true, leb-false, le-leb, lt-leb, eqb-false}
+use borrow.Author.Tests.{leb-true, le-leb, lt-leb, eqb-false}
 use Rattle.biomass.specs.Whole.{inside}
 use Rattle.biomass.specs.Report.{Report, gives, unless, when, _then_}
 use Rattle.biomass.specs.Limits.{mostMeasured, mostHeights, mostEstimated, mostSmall, greatestCarbon}
@@ -17,12 +17,12 @@ use Rattle.biomass.specs.Ends.{between}
 use Rattle.biomass.specs.Tree.{treeOf, rowBiomass, rowOf}
 use Rattle.biomass.specs.SmallTrees.{smallOf}
 use Rattle.biomass.specs.Law.Report.{Inside, inside-true}
-use Rattle.biomass.specs.Law.Tariff.{single-tariff-range, line-tariff-range}
+use Rattle.biomass.specs.Law.Tariff.{line-tariff-range}
 use Rattle.biomass.specs.Law.Mean.{mean-range}
 use Rattle.biomass.specs.Law.Tree.{Operands}
 use Rattle.biomass.specs.Law.Answers.{mean-answers, trees-answers, line-tariff-answers, row-answers, small-answers}
 use Rattle.biomass.specs.Law.Project.{none-or-some}
-use Rattle.line.specs.Line.{tallied, tariffOf, T-of, d-of, N-of, small-of, wholeCm, MeasuredPart, smallPart, noMeasured, gaining, rowWith, estimatedRow, emptyRow}
+use Rattle.line.specs.Line.{tallied, T-of, d-of, N-of, small-of, wholeCm, MeasuredPart, smallPart, noMeasured, gaining, rowWith, estimatedRow, emptyRow}
 use Rattle.survey.specs.Survey.{withRow, measure, giveHeight, f-of, treeAt, someMeasured, measuredAt, estimate, closingRow, closeSmall, close}
 use Rattle.rules.specs.Checks.{mostLines}
 use Rattle.survey.specs.AsWritten.{asWritten}

@@ -1,5 +1,4 @@
 -- `line::line::scale` meets its contract: step 3's refusal is its own, and then the limit of a line is the definition's.
-use mathlib.Core.Path.{refl}
 use borrow.Author.Needs.{needs}
 use borrow.Author.Tests.{le-leb, lt-leb}
 use Rattle.biomass.specs.Law.Report.{stop-unless, past-unless, follows-count, stops-count}

@@ -4,15 +4,14 @@ use Prim.Native.Nat.{ℕ, _+_, _-_, _*_, _^_, _≤_, _<_}
 use native.Mathlib.Nat.{mul-le-mul, le-trans, lt-of-le-of-lt, le-of-lt}
 use native.Mathlib.Omega.{arith}
 use mathlib.Core.Path.{_≡_}
-use mathlib.Core.Bool.{Bool, false, not}
+use mathlib.Core.Bool.{Bool, true, false, not}
 use borrow.Author.Needs.{needs}
 use borrow.Author.Tests.{le-leb, lt-leb}
-use lib.Dec.{lit<, lit≤}
+use lib.Dec.{leb, lit<, lit≤}
 use Rattle.biomass.specs.Whole.{inside}
 use Rattle.biomass.specs.Limits.{mostMeasured}
 use Rattle.biomass.specs.Law.Report.{refuses, goes-on, stop-unless, past-unless, in-range}
 use Rattle.line.specs.AnyLine.{mostSquares, addTrees}
-use Rattle.line.proofs.Limit.{above-limit, within-limit}
 use Rattle.line.proofs.line.Line.add_trees.Statement.{statement}
 use Rattle.line.proofs.line.Line.add_trees.Tie as tie
 
@@ -35,6 +34,13 @@ sum-fits x y few rest = omega arith
 
 trees-few : (count : ℕ) → count < 65536 → count ≤ mostMeasured
 trees-few count n = omega arith
+
+-- whether x + y is at most a limit, as the code asks it without the sum
+above-limit : (x y most : ℕ) → y ≤ most → most - y < x → leb (x + y) most ≡ false
+above-limit x y most h less = lt-leb (x + y) most (omega arith)
+
+within-limit : (x y most : ℕ) → y ≤ most → x ≤ most - y → leb (x + y) most ≡ true
+within-limit x y most h le = le-leb (x + y) most (omega arith)
 
 ruleset line-checks = (refuses, goes-on, stop-unless, past-unless, le-leb, lt-leb, above-limit, within-limit, trees-few)
 
