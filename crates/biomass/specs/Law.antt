@@ -11,6 +11,7 @@
 --     Answers                                 operands in their ranges are answered, and with what
 --     Declines                                a figure is declined with 6 alone, and a single tariff with 6 or 13
 --     Declines: unless-declines, then-declines    and what is made of checks and of other reports, with their numbers alone
+--     SameChecks                              two reports with the same checks are the same where what follows the checks is
 --     Fraction                                sums, shares and the order of fractions
 --     Project: none-of-equal, project-gap, project-not-over   what demand 3 says of the project's two figures, clause by clause
 --     SmallTrees: small-not-under, small-not-over, small-bounds   the exact biomass of small trees lies from their low to their high, which are 1 mg apart at most
@@ -19,9 +20,10 @@
 -- numbers: div; differences of naturals
 pub mod Whole
 pub mod Signed
--- reports: from the code's tests to a report, and a report that gives a figure taken apart
+-- reports: from the code's tests to a report, a report that gives a figure taken apart, and two with the same checks
 pub mod Report
 pub mod Gives
+pub mod SameChecks
 -- the steps
 pub mod Tariff
 pub mod Mean

@@ -1,5 +1,6 @@
 -- What is proved of the definitions, each law once, for this crate's proofs and for the layer above.
 --     Reader: read-all-encoded, encoded-read-all    the same of whole books: a list's encoding reads back as the list, and a book that reads through is its list's encoding
+--     Reader: encode-all-bytes, read-all-fit    the encoding is bytes, and the operands of what is read fit theirs
 --     Reader: encode-all-one                    so two lists with the same bytes are the same list
 --     Reach: stops-there, reach-encoded       a book reads as far as its first refusal, and the bytes up to there are its commands' encoding
 --     Reach: stops-at-end, one-at-end         from a place not past its end it stops at its end with 1 alone, and with 1 nowhere else; `reach-enough`, as in Playing

@@ -25,7 +25,7 @@ use Rattle.codec.specs.declared.command.Command.the-variants.{Species, F
 
 -- ---- the bytes of a command are bytes
 
-each-encoded : (c : Command) → Fits c → EachByte (encode c)
+pub each-encoded : (c : Command) → Fits c → EachByte (encode c)
 each-encoded (Species id s) f =
     one-byte {x = 1} (omega arith) (one-byte (f .0) (one-byte (f .1 .crown) (one-byte (f .1 .root) (one-byte (f .1 .gravity)
     (each-append (each-append (each-append (bytes-below 4 (unsigned (s .c1))) (bytes-below 4 (unsigned (s .c2)))) (bytes-below 4 (unsigned (s .c3))))

@@ -29,13 +29,13 @@ use Rattle.survey.specs.AsWritten.{asWritten}
 use Rattle.survey.specs.Apply.{applyMeasured, applyHeight, applyClose, apply}
 use Rattle.line.specs.AnyLine.{mostSquares, mostTariffs, addTrees, addHeight, scaled, rowGaining, worked, someRow, smallRow, lineRow}
 use Rattle.survey.specs.Valid.{ValidSpecies, ValidTally, ValidHeights, ValidSmall, Valid}
-use Rattle.survey.specs.Law.Checks.{when-same, unless-same, when-then, unless-then, cond-then, then-then, passed-then, answered-then}
 use Rattle.codec.specs.declared.command.Command.{Command}
 use Rattle.line.specs.declared.row.Row.{Row}
 use Rattle.line.specs.declared.line.Tally.{Tally}
 use Rattle.line.specs.declared.line.Heights.{Heights}
 use Rattle.line.specs.declared.line.Line.{Line}
 use Rattle.biomass.specs.declared.units.BiomassRange.{BiomassRange}
+use Rattle.biomass.specs.Law.SameChecks.{when-same, unless-same, when-then, unless-then, cond-then, then-then, passed-then, answered-then}
 use Rattle.survey.specs.declared.survey.Survey.{Survey}
 
 -- ---- measured trees and height trees

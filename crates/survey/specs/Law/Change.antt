@@ -11,6 +11,7 @@ use borrow.Author.Tests.{leb-false}
 use Rattle.biomass.specs.Whole.{inside}
 use Rattle.biomass.specs.Report.{Report, refused, gives, _then_, when}
 use Rattle.biomass.specs.Law.Report.{inside-true}
+use Rattle.biomass.specs.Law.SameChecks.{when-then, unless-then, then-then}
 use Rattle.line.specs.Line.{newLine, addSmall}
 use Rattle.survey.specs.Survey.{speciesAt, withState, withLine, declare, giveFactor, opened, openLine, giveSmall, end}
 use Rattle.rules.specs.Checks.{speciesInRange, declaredAs, declaring, opening}
@@ -18,7 +19,7 @@ use Rattle.survey.specs.Apply.{onLine, applyMeasured, applyHeight, apply
 use Rattle.line.specs.AnyLine.{addTrees, addHeight}
 use Rattle.rules.specs.Change.{decision, named, opens, updates, changeOf, decided, own, notOwn, ownOf, onOpen}
 use Rattle.survey.specs.Changed.{changed, HasPlace, seenOf}
-use Rattle.survey.specs.Law.Checks.{Gives, when-such, passed, when-then, unless-then, then-then, species-in-range}
+use Rattle.survey.specs.Law.Checks.{Gives, when-such, passed, species-in-range}
 use Rattle.codec.specs.declared.command.Species.{Species}
 use Rattle.codec.specs.declared.command.Command.{Command}
 use Rattle.line.specs.declared.line.Line.{Line}

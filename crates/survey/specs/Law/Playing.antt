@@ -16,6 +16,7 @@ use borrow.Author.Tests.{lt-ltb, le-ltb, ltb-true, ltb-false}
 use Rattle.biomass.specs.Report.{Report, refused, gives, unless, _then_, when}
 use Rattle.biomass.specs.Law.Gives.{made, figure-is, number-is}
 use Rattle.biomass.specs.Law.Declines.{Declines, gives-declines, then-declines}
+use Rattle.biomass.specs.Law.SameChecks.{then-same}
 use Rattle.codec.specs.Command.{encode}
 use Rattle.codec.specs.Reading.{read}
 use Rattle.survey.specs.Reader.{encodeAll, reach}
@@ -29,7 +30,6 @@ use Rattle.rules.specs.Change.{Own, own, notOwn, ownOf}
 use Rattle.codec.specs.Law.Bytes.{Stands, stands-first, stands-second, stands-itself}
 use Rattle.codec.specs.Law.RoundTrip.{read-at-end, read-encoded, read-moves}
 use Rattle.survey.specs.Law.Reach.{read-declines, reach-refused, reach-on, AllFit, none, and-next}
-use Rattle.survey.specs.Law.Checks.{then-same}
 use Rattle.survey.specs.Law.Change.{ended-refuses, own-applied}
 use Rattle.survey.specs.Law.Valid.{fresh-valid, apply-valid}
 use Rattle.survey.specs.Law.AsWritten.{as-written}
