@@ -23,8 +23,8 @@ extern "C" {
 /* The version of this header, the Rust crate and the book's format together; CHANGELOG.md has what raises it. */
 #define FIELDBOOK_VERSION_MAJOR 1
 #define FIELDBOOK_VERSION_MINOR 1
-#define FIELDBOOK_VERSION_PATCH 0
-#define FIELDBOOK_VERSION "1.1.0"
+#define FIELDBOOK_VERSION_PATCH 1
+#define FIELDBOOK_VERSION "1.1.1"
 
 /* The numbers of the refusals. */
 enum {
@@ -100,7 +100,8 @@ enum {
 enum { FIELDBOOK_LOW, FIELDBOOK_HIGH, FIELDBOOK_ENDS };
 
 /* Totals a book into a sheet of 800 bytes or more: the rows stand from its first byte on, and no other bytes change.
-   Where the book is refused, the sheet is as it was, and the answer is 0 but for the place. */
+   Where the book is refused, the sheet is as it was, and the answer is 0 but for the place. The order of 04, 05 and 08
+   inside a line is free: it changes neither whether the book is accepted nor, then, any number or byte. */
 uint8_t fieldbook_total(const uint8_t *book, size_t book_length, uint8_t *sheet, size_t sheet_length,
                         uint64_t answer[FIELDBOOK_TOTAL_NUMBERS]);
 

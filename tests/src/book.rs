@@ -3,6 +3,7 @@
 use crate::total::Refused;
 use std::iter;
 use std::ops::Range;
+use std::sync::LazyLock;
 
 const AT_OR_PAST_THE_END: u64 = 1;
 pub const UNKNOWN_BYTE: u64 = 2;
@@ -17,6 +18,10 @@ pub const WITH_OPERANDS: [&str; 6] = ["species", "factor", "open", "measured", "
 
 /// How many bytes each operand takes, for the commands from 01 on.
 const WIDTHS: [&[usize]; 8] = [&[1, 1, 1, 1, 4, 4, 4, 4], &[1, 1], &[1, 1, 4, 4], &[1, 2], &[1, 2], &[], &[], &[4, 4]];
+
+/// How many bytes each command takes: its own and its operands'. Added once, for the fuzz run looks for commands often.
+static LENGTHS: LazyLock<[usize; WIDTHS.len()]> =
+    LazyLock::new(|| WIDTHS.map(|widths| 1 + widths.iter().sum::<usize>()));
 
 pub const SPECIES: u8 = 1;
 pub const FACTOR: u8 = 2;
@@ -78,10 +83,11 @@ pub fn read(book: &[u8], at: usize) -> Result<(Command, usize), u64> {
 
 /// Where commands stand, from the first on.
 pub fn places(book: &[u8]) -> impl Iterator<Item = Range<usize>> + '_ {
+    let lengths: &[usize] = &*LENGTHS;
     let mut at = 0;
     iter::from_fn(move || {
-        let widths = widths(*book.get(at)?)?;
-        let place = at..at + 1 + widths.iter().sum::<usize>();
+        let length = lengths.get(usize::from(*book.get(at)?).wrapping_sub(1))?;
+        let place = at..at + length;
         at = place.end;
         (at <= book.len()).then_some(place)
     })

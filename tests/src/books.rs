@@ -184,6 +184,40 @@ fn line_of_both(areas: [u64; 2], oaks: u64, carbon: u64, count: u64) -> Vec<u8> 
     line_of_oaks(areas, measured_oaks(oaks).into_iter().chain([small(carbon, count)]))
 }
 
+/// Two lines. Amid the trees of the first stand the factor that it needs, and the species and the factor that the second
+/// needs.
+pub fn declared_inside() -> Vec<u8> {
+    let (species, mut operands) = oak();
+    operands[0] = 4;
+    written([
+        oak(),
+        (OPEN, vec![1, 3, 6, 1]),
+        (MEASURED, vec![60, 4]),
+        (FACTOR, vec![39, 101]),
+        (MEASURED, vec![20, 7]),
+        (species, operands),
+        (HEIGHT, vec![60, 120]),
+        (FACTOR, vec![30, 150]),
+        (HEIGHT, vec![20, 30]),
+        small(1_575_600, 289),
+        (CLOSE, vec![]),
+        (OPEN, vec![2, 4, 1, 1]),
+        (MEASURED, vec![30, 5]),
+        (HEIGHT, vec![20, 100]),
+        (CLOSE, vec![]),
+        (END, vec![]),
+    ])
+}
+
+/// A line of 983,025 oaks with too many more, and with a height tree whose tariff would be 120: the one before the other,
+/// and the other way round. The first of the two stands at byte 92.
+pub fn refused_in_two_orders() -> [Vec<u8>; 2] {
+    let [oaks, tall] = [(MEASURED, vec![60, 65_535]), (HEIGHT, vec![20, 600])];
+    let before = vec![oaks.clone(); 15];
+    let orders = [[oaks.clone(), tall.clone()], [tall, oaks]];
+    orders.map(|last| line_of_oaks([1, 1], before.iter().cloned().chain(last)))
+}
+
 /// 08 is checked for 5, for 10, for 6, and then for 7.
 fn refused_small_trees() -> Vec<Named> {
     let mut books = vec![
@@ -404,14 +438,14 @@ fn counts(author: &mut Author, trees: u64) -> Vec<u64> {
 }
 
 /// A book of one line with so many height trees and measured trees, whatever document 01 says of them.
-fn one_line(seed: u64, areas: [u64; 2], height_trees: usize, trees: u64) -> Vec<u8> {
+pub fn one_line(seed: u64, areas: [u64; 2], height_trees: usize, trees: u64) -> Vec<u8> {
     let mut writer = any_writer(seed);
     let counts = counts(&mut writer.author, trees);
     writer.one_line(areas, height_trees, counts, &[])
 }
 
 /// A book of one line with so many measured trees and these operands of small trees, whatever the papers say of them.
-fn with_small_trees(seed: u64, areas: [u64; 2], trees: u64, small: &[[u64; 2]]) -> Vec<u8> {
+pub fn with_small_trees(seed: u64, areas: [u64; 2], trees: u64, small: &[[u64; 2]]) -> Vec<u8> {
     let mut writer = any_writer(seed);
     let counts = counts(&mut writer.author, trees);
     writer.one_line(areas, counts.len(), counts, small)
@@ -449,12 +483,6 @@ impl Author {
             return [self.random.signed(5_000_000, 504_999_999), 0, 0, 0];
         }
         self.one_of(&protocol::tariff())
-    }
-
-    fn shuffle<T>(&mut self, all: &mut [T]) {
-        for i in 1..all.len() {
-            all.swap(i, self.random.between(0, i as u64) as usize);
-        }
     }
 
     /// A book with a command taken out, said twice, exchanged with another or put in.
@@ -501,7 +529,7 @@ struct Writer {
 impl Writer {
     fn new(mut author: Author, species: usize, classes: RangeInclusive<u64>) -> Writer {
         let mut ids: Vec<u64> = (0..16).collect();
-        author.shuffle(&mut ids);
+        author.random.shuffle(&mut ids);
         let species: Vec<_> = ids[..species].iter().map(|&id| (id, author.usable_constants())).collect();
         let mut pending = Vec::new();
         for &(id, constants) in &species {
@@ -510,7 +538,7 @@ impl Writer {
         for cm in classes.clone() {
             pending.push((FACTOR, vec![cm, author.random.between(100, 200)]));
         }
-        author.shuffle(&mut pending);
+        author.random.shuffle(&mut pending);
         let stratum = author.random.between(0, 255);
         Writer { author, species, classes, pending, stratum, constants: [0; 4], small_trees: true }
     }
@@ -564,7 +592,7 @@ impl Writer {
         for _ in 0..self.author.random.between(commands.min(1), 3) {
             orders.push((HEIGHT, self.height_tree().to_vec()));
         }
-        self.author.shuffle(&mut orders);
+        self.author.random.shuffle(&mut orders);
         for (byte, operands) in orders {
             self.maybe_give();
             self.author.put(byte, &operands);

@@ -2,7 +2,7 @@
 use crate::author::Author;
 use crate::random::Random;
 use crate::total::{total, LEAST_SHEET};
-use crate::{book, books, streams};
+use crate::{book, books, order, streams};
 use std::ops::Range;
 
 /// Accepted books to begin with: of a few lines, at the limits of document 01, and at those of small trees.
@@ -72,6 +72,11 @@ impl<'a> Changer<'a> {
     pub fn two_places(&mut self) -> [usize; 2] {
         find_commands(&self.author.stream, &mut self.commands);
         [self.any_place(), self.author.random.between(0, self.book().len() as u64 + 1) as usize]
+    }
+
+    /// The book in another order of the crew, where it reads through and has one.
+    pub fn shuffled(&mut self) -> Option<Vec<u8>> {
+        order::shuffled(&mut self.author.random, &self.author.stream)
     }
 
     fn any_book(&mut self) -> &'a [u8] {

@@ -1,21 +1,21 @@
 //! The library against `plain` over books by chance, so many or as many as there is time for: the answer and every byte
-//! of the sheet. A book hangs on the seed of the run and on its number alone, whatever the time and however many cores
-//! there are.
+//! of the sheet. What it answers to a book and to the same book in another order of the crew is compared too. A book hangs
+//! on the seed of the run and on its number alone, whatever the time and however many cores there are.
 use crate::author::Author;
 use crate::changes::{Changer, Pool};
 use crate::library::{as_numbers, same_reading, total, Totalled};
-use crate::met::Met;
 use crate::program::{first_difference, Hex};
 use crate::random::Random;
 use crate::report::{Report, Tally};
 use crate::total::{LEAST_SHEET, ROW};
-use crate::{cores, plain, streams};
-use std::fmt::{Debug, Formatter};
+use crate::{cores, met, orders, plain, streams};
+use std::fmt::{Debug, Display, Formatter};
+use std::ops::Range;
 use std::panic::{catch_unwind, AssertUnwindSafe};
 use std::sync::atomic::{AtomicU64, Ordering};
 use std::time::{Duration, Instant};
 
-/// What the check takes that every run of the tests makes: the same books, some twelve seconds of them on two cores.
+/// What the check takes that every run of the tests makes: the same books, some twenty seconds of them on two cores.
 const SEED: u64 = 1;
 const BOOKS: u64 = 8_000_000;
 
@@ -35,7 +35,7 @@ pub fn run(report: &mut Report) {
     report.check("fuzz, the library and a plain implementation over books by chance", |tally| {
         let (compared, met) = fuzz(SEED, BOOKS, Duration::MAX);
         tally.add(compared);
-        tally.same("books", met.books(), BOOKS);
+        tally.same("books", met.answers.books(), BOOKS);
         every_answer_was_met(tally, &met);
         tally.remark = format!("; {met}");
     });
@@ -51,9 +51,23 @@ pub fn alone(seed: u64, seconds: u64) -> bool {
     tally.is_good()
 }
 
-fn every_answer_was_met(tally: &mut Tally, met: &Met) {
-    tally.same("answers that were never met", met.missing(), vec![]);
-    tally.same("answers that totalling does not have", met.others(), vec![]);
+/// What a run has met: the answers to its books, and the books that it had in two orders.
+#[derive(Default)]
+struct Met {
+    answers: met::Met,
+    pairs: orders::Met,
+}
+
+impl Display for Met {
+    fn fmt(&self, f: &mut Formatter) -> std::fmt::Result {
+        write!(f, "{}; {}", self.answers, self.pairs)
+    }
+}
+
+fn every_answer_was_met(tally: &mut Tally, Met { answers, pairs }: &Met) {
+    tally.same("answers that were never met", answers.missing(), vec![]);
+    tally.same("answers that totalling does not have", answers.others(), vec![]);
+    tally.same("pairs that were never met", pairs.missing(), vec![]);
 }
 
 /// Every core takes the next numbers until all these books are done, the time is over or a book differs. All books with
@@ -83,7 +97,8 @@ fn fuzz(seed: u64, books: u64, time: Duration) -> (Tally, Met) {
     let mut all = (Tally::default(), Met::default());
     for (tally, met) in shares {
         all.0.add(tally);
-        all.1.add(met);
+        all.1.answers.add(met.answers);
+        all.1.pairs.add(met.pairs);
     }
     all
 }
@@ -140,26 +155,49 @@ impl<'a> Worker<'a> {
         let start = MARGIN + author.random.between(0, MARGIN as u64) as usize;
         let from = author.random.between(0, (self.noise.len() - ROOM) as u64) as usize;
         let places = self.changer.two_places();
+        let shuffled = self.changer.shuffled();
         let case = Case { seed: self.seed, k, book: self.changer.book(), sheet: length };
-        let before = &self.noise[from..from + ROOM];
-        let (number, [.., at]) = compare_totals(&mut self.tally, &case, before, start..start + length);
-        self.met.count(case.book, number, at as usize);
+        let lent = Lent { bytes: &self.noise[from..from + ROOM], sheet: start..start + length };
+        let answer = lent.with_sheet(case.book, total);
+        let (number, [.., at]) = compare_totals(&mut self.tally, &case, &lent, &answer);
+        self.met.answers.count(case.book, number, at as usize);
         for at in places {
             same_reading(&mut self.tally, &case, case.book, at);
+        }
+        if let Some(other) = shuffled {
+            let other_answer = lent.with_sheet(&other, total);
+            self.met.pairs.count([case.book, &other], [answer.0 .0, other_answer.0 .0]);
+            let answers = [&answer, &other_answer].map(|(answer, bytes)| (*answer, &bytes[..]));
+            orders::accepted_together(&mut self.tally, (&case, Hex(&other)), lent.bytes, answers);
         }
     }
 }
 
-/// Totals a book by both, into sheets amid these bytes. What comes back is the answer of `plain`.
-fn compare_totals(tally: &mut Tally, case: &Case, before: &[u8], sheet: std::ops::Range<usize>) -> Totalled {
-    let [mut ours, mut theirs]: [[u8; ROOM]; 2] = [before.try_into().expect("as many bytes"); 2];
-    let answer = total(case.book, &mut ours[sheet.clone()]);
-    let expected = as_numbers(plain::total(case.book, &mut theirs[sheet.clone()]));
-    tally.same(case, answer, expected);
+/// What a totalling is lent: a sheet amid other bytes.
+struct Lent<'a> {
+    bytes: &'a [u8],
+    sheet: Range<usize>,
+}
+
+/// The numbers, and what the bytes that were lent have become.
+type Answer = (Totalled, [u8; ROOM]);
+
+impl Lent<'_> {
+    fn with_sheet(&self, book: &[u8], total: impl FnOnce(&[u8], &mut [u8]) -> Totalled) -> Answer {
+        let mut bytes: [u8; ROOM] = self.bytes.try_into().expect("as many bytes");
+        (total(book, &mut bytes[self.sheet.clone()]), bytes)
+    }
+}
+
+/// Compares the library's answer with that of `plain`, which comes back.
+fn compare_totals(tally: &mut Tally, case: &Case, lent: &Lent, (answer, ours): &Answer) -> Totalled {
+    let Lent { bytes: before, sheet } = lent;
+    let (expected, theirs) = lent.with_sheet(case.book, |book, sheet| as_numbers(plain::total(book, sheet)));
+    tally.same(case, *answer, expected);
     // The bytes around the sheets too: `plain` cannot reach those of its own.
-    let (at, [found, wanted]) = first_difference(&ours, &theirs);
+    let (at, [found, wanted]) = first_difference(ours, &theirs);
     tally.same((case, "from byte", at as i64 - sheet.start as i64), found, wanted);
-    let (number, [rows, trees, low, high, _]) = answer;
+    let (number, [rows, trees, low, high, _]) = *answer;
     let end = sheet.start + ROW * rows as usize;
     let kept = ours[..sheet.start] == before[..sheet.start] && ours[end..] == before[end..];
     tally.holds(kept, (case, rows, "bytes that are not the rows' have changed"));

@@ -17,6 +17,8 @@ mod library;
 mod listing;
 mod met;
 mod natural;
+mod order;
+mod orders;
 mod plain;
 mod play;
 mod powers;
@@ -70,6 +72,7 @@ fn every_check() -> bool {
     library::run(&mut report);
     replay::run(&mut report);
     totals::run(&mut report);
+    orders::run(&mut report);
     fuzz::run(&mut report);
     listing::run(&mut report);
     commands::run(&mut report);

@@ -66,7 +66,11 @@ fn status_by(end: Instant, child: &mut Child) -> Option<ExitStatus> {
 
 /// Where two sheets begin to differ, and a row's length of each from there: nothing where they are the same.
 pub fn first_difference<'a>(one: &'a [u8], other: &'a [u8]) -> (usize, [Hex<'a>; 2]) {
-    let at = iter::zip(one, other).take_while(|(byte, other)| byte == other).count();
+    // Nearly all are the same, and to compare them at once is far quicker.
+    let at = match one == other {
+        true => one.len(),
+        false => iter::zip(one, other).take_while(|(byte, other)| byte == other).count(),
+    };
     (at, [one, other].map(|sheet| Hex(&sheet[at..sheet.len().min(at + ROW)])))
 }
 

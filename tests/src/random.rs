@@ -35,6 +35,13 @@ impl Random {
         }
     }
 
+    /// Puts all in any order.
+    pub fn shuffle<T>(&mut self, all: &mut [T]) {
+        for i in 1..all.len() {
+            all.swap(i, self.between(0, i as u64) as usize);
+        }
+    }
+
     pub fn signed(&mut self, least: i32, most: i32) -> i32 {
         let width = most.abs_diff(least).into();
         (i64::from(least) + self.between(0, width) as i64) as i32

@@ -20,11 +20,15 @@ const CHUNK: usize = 1_000;
 const MANY: u64 = 24_000;
 const OFTEN: u64 = 100;
 
+/// The listing's rows, trees, low and high, as document 01 prints them.
+pub const LISTING: Totalled = (0, [2, 2400, 92_196_262, 92_196_263, 0]);
+
 /// A book, and the sheet that it is totalled into: its length, and the seed of the bytes that it holds before.
-struct Case {
-    length: usize,
-    seed: u8,
-    book: Vec<u8>,
+#[derive(Clone)]
+pub struct Case {
+    pub length: usize,
+    pub seed: u8,
+    pub book: Vec<u8>,
 }
 
 /// The numbers, and the bytes of the sheet with those on both sides of it.
@@ -32,7 +36,7 @@ type Answer = (Totalled, Vec<u8>);
 
 impl Case {
     /// What the sheet holds before, with more of it on both sides.
-    fn noise(&self) -> Vec<u8> {
+    pub fn noise(&self) -> Vec<u8> {
         let noise = |i: usize| usize::from(self.seed) + i % 256 * 7 + i / 256 * 59;
         (0..self.length + 2 * MARGIN).map(|i| noise(i) as u8).collect()
     }
@@ -44,7 +48,7 @@ impl Case {
         (answer, bytes)
     }
 
-    fn library(&self) -> Answer {
+    pub fn library(&self) -> Answer {
         self.with_sheet(library::total)
     }
 
@@ -79,7 +83,7 @@ fn numbers(totalled: &Result<Totals, Refused>) -> Totalled {
 /// What was met: each answer, and how many accepted books have estimated trees, a line of small trees alone, and a line
 /// of both sorts.
 #[derive(Default)]
-struct Met {
+pub struct Met {
     answers: met::Met,
     with_trees: u64,
     small_alone: u64,
@@ -107,7 +111,7 @@ pub fn run(report: &mut Report) {
 }
 
 /// A case for each book. One sheet in so many is too short, or none.
-fn cases(seed: u64, books: impl Iterator<Item = Vec<u8>>, short: Option<u64>) -> Vec<Case> {
+pub fn cases(seed: u64, books: impl Iterator<Item = Vec<u8>>, short: Option<u64>) -> Vec<Case> {
     let mut author = Author::new(seed);
     let least = LEAST_SHEET as u64;
     let case = |book| {
@@ -129,7 +133,7 @@ fn sheets() -> Vec<Case> {
 }
 
 /// Totals every book by the library and twice here, and holds the library's figures to the exact value.
-fn compare(tally: &mut Tally, cases: &[Case], met: &mut Met) {
+pub fn compare(tally: &mut Tally, cases: &[Case], met: &mut Met) {
     for chunk in cases.chunks(CHUNK) {
         let all = cores::each(chunk, |case| (case, case.library(), case.plain(), case.total()));
         for (case, answer, plain, (expected, totalled)) in all {
@@ -199,7 +203,7 @@ fn listing(report: &mut Report) {
     report.check("totals, the listing of document 01", |tally| {
         let cases = [LEAST_SHEET, 5].map(|length| Case { length, seed: 42, book: books::listing() });
         let [whole, short] = &cases;
-        tally.same("the listing", whole.library().0, (0, [2, 2400, 92_196_262, 92_196_263, 0]));
+        tally.same("the listing", whole.library().0, LISTING);
         let (answer, bytes) = short.library();
         tally.same("too short a sheet", (answer, Hex(&bytes)), ((16, [0; 5]), Hex(&short.noise())));
         compare(tally, &cases, &mut Met::default());

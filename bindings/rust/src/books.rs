@@ -33,7 +33,8 @@ pub struct Row {
 }
 
 /// Totals a book into a sheet of [`SHEET`] bytes or more: the rows stand from its first byte on, and no other bytes
-/// change. Where the book is refused, the sheet is as it was.
+/// change. Where the book is refused, the sheet is as it was. The order of 04, 05 and 08 inside a line is free: it changes
+/// neither whether the book is accepted nor, then, any number or byte.
 pub fn total(book: &[u8], sheet: &mut [u8]) -> Result<Totals, Refused> {
     let mut answer = [0; 5];
     let number = boundary::total(book, sheet, &mut answer);

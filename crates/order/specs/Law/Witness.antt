@@ -38,7 +38,7 @@ listed-fits = (
   record { crown = omega arith; root = omega arith; gravity = omega arith; c1 = omega arith; c2 = omega arith; c3 = omega arith; c4 = omega arith },
 )
 
--- The listing and this one, as books
+-- it is the listing in another order
 pub listing-other-order : OtherOrder listing (encodeAll heightFirst)
 unfolding listing
 listing-other-order = books-of-lists listingCommands heightFirst listing-fits height-first-fits (reordered-lines one-exchange)
@@ -120,12 +120,13 @@ refused-other-order =
     (reordered-lines (and-then (exchange (nearlyFull (heightTree ∷ [])) tooTall manyTrees (Close ∷ End ∷ []) refl refl)
     (exchange (nearlyFull []) heightTree manyTrees (tooTall ∷ Close ∷ End ∷ []) refl refl)))
 
--- both are refused, with other numbers at other places
+-- commands that are refused where they are played
 played-refused : (cs : List Command) (n at : ℕ) → AllFit cs → playListBy asWritten cs 0 fresh ≡ stopped n at → (sheet : List ℕ) → sheetLength ≤ length sheet
     → total (encodeAll cs) sheet ≡ refusedAt n at
 unfolding total
 played-refused cs n at fits e sheet room = rw (le-ltb (length sheet) sheetLength room) (ap answerOf (play-of-list cs fits ∙ e))
 
+-- so both are refused, with different numbers at different places
 pub refusals-differ : (sheet : List ℕ) → sheetLength ≤ length sheet
     → (total (encodeAll tallFirst) sheet ≡ refusedAt 13 96) × (total (encodeAll treesFirst) sheet ≡ refusedAt 11 92)
 unfolding playListBy fresh declare opened openLine measure giveHeight singleTariff
