@@ -120,6 +120,7 @@ equal-true (x, a, b) (y, c, d) e =
     let other = eqb-true b d (second .1) in
     cc
 
+-- whether two are the same command, of those of a line
 abbrev alike : Command → Command → Bool
 alike c d = equal (figures c) (figures d)
 
@@ -249,6 +250,7 @@ stretches-reordered (c ∷ cs) g h all all' same =
     by-parting true r next = and-then (any-order (all 0) (all' 0) (same 0) (c ∷ inOrder (λ i. g (suc i)) cs)) (after-all (h 0) (after-one c next))
     by-parting false r next = after-one c r
 
+-- what stands in a stretch is of a line
 all-of-line : (cs : List Command) (i : ℕ) → AllOfLine (inStretch i cs)
 unfolding inStretch
 all-of-line [] i = none
@@ -265,6 +267,7 @@ all-of-line (c ∷ cs) (suc i) = by-parting (parts c) (all-of-line cs i) (all-of
     by-parting true here next = here
     by-parting false here next = next
 
+-- so each is brought into the order of both
 pub lines-reordered : {cs ds : List Command} → SameLines cs ds → Reordered cs ds
 lines-reordered {cs} {ds} same =
     and-then (in-order cs)
