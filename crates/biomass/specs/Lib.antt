@@ -1,5 +1,6 @@
 -- The law of this crate, in the order of document 01: what each figure is. Each definition stands under the sentence that it states, of document 01 or, where it
--- says so, of document 02. "The papers", here and in every other crate, are document 01 with what the requests of document 02 have changed of it: so far Q-1.
+-- says so, of document 02. "The papers", here and in every other crate, are document 01 with what the requests of document 02 have changed of it: so far Q-1. (Q-2
+-- changes nothing of it.)
 --
 -- HOW TO READ specs/, here and in every other crate. A file says what things are; a line that begins with two dashes is a remark. The signs:
 --
