@@ -4,9 +4,10 @@
 --     Order: books-of-lists                   the books of two lists of commands are such where the lists are
 --     Exchange: exchanged                     a line's command and its neighbour are taken in either order, to the same survey, or in neither
 --     Lines: reordered-lines, lines-reordered     the two ways to say that commands differ only in that order are the same
---     Witness: each-kind-moves                each kind of a line's commands may pass the others and both kinds of declarations
 --     Witness: height-first-totalled          so document 01's listing with its height tree first comes to the listing's totals and sheet
---     Witness: past-closing, refusals-differ  and what is not said: a command past its line's closing; which number two refused books get
+--     Witness: refusals-differ                and two such books that are refused may be so with different numbers at different places
+--     Covers: each-kind-moves, past-closing   what the relation holds of: each kind of a line's commands passes the others and the declarations, and none its closing
+pub mod Covers
 pub mod Part
 pub mod Exchange
 pub mod Lines

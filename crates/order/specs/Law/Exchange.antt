@@ -83,17 +83,13 @@ small-part carbon count =
     record {
       is = λ s.
           let l = s .line in
+          let answer = addSmall carbon count (smallAlone l) in
           when-then _ (s .ended) 5 _ _ (λ not-ended.
           unless-then _ (s .active) 10 _ _ (λ is-open.
-          by-answer s (addSmall carbon count (smallAlone l))
+          then-then (λ m. gives (putSmall m s)) answer (λ m. gives (m .small)) _ (λ m taken. refl)
+          ∙ sym (then-then (λ m. gives (withLine s m)) answer (λ m. gives (lineWith l (l .tally) (l .heights) (m .small))) _ (λ m taken. refl))
           ∙ ap (λ (r : Report Line). r then λ m. gives (withLine s m)) (small-alone carbon count (smallAlone l) (l .tally) (l .heights))));
     }
-  where
-    by-answer : (s : Survey) (r : Report Line)
-        → (r then (λ m. gives (m .small)) then λ m. gives (putSmall m s))
-        ≡ (r then (λ m. gives (lineWith (s .line) (s .line .tally) (s .line .heights) (m .small))) then λ m. gives (withLine s m))
-    by-answer s (refused n) = refl
-    by-answer s (gives m) = refl
 
 -- ---- two of a kind
 

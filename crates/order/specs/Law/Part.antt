@@ -3,6 +3,7 @@
 use Prim.Native.Nat.{ℕ}
 use mathlib.Core.Path.{_≡_, _∙_, refl, sym, ap}
 use Rattle.biomass.specs.Report.{Report, refused, gives, _then_}
+use Rattle.biomass.specs.Law.SameChecks.{then-then}
 use Rattle.survey.specs.declared.survey.Survey.{Survey}
 
 -- ---- reports, but for the number of the refusal
@@ -58,11 +59,8 @@ pub record Part {X : Type 0} (look : Survey → Report X) (put : X → Survey �
 -- before another, which answers so of the survey that it leaves
 part-then : {X : Type 0} {look : Survey → Report X} {put : X → Survey → Survey} {f : Survey → Report Survey} → Part look put f
     → (g : Survey → Report Survey) (s : Survey) (after : X → Report Survey) → ((x : X) → g (put x s) ≡ after x) → f s then g ≡ look s then after
-part-then {look = look} {put = put} p g s after same = ap (λ (r : Report Survey). r then g) (sym (p .is s)) ∙ by-look (look s)
-  where
-    by-look : (r : Report _) → (r then λ x. gives (put x s)) then g ≡ r then after
-    by-look (refused n) = refl
-    by-look (gives x) = same x
+part-then {look = look} {put = put} p g s after same =
+    ap (λ (r : Report Survey). r then g) (sym (p .is s)) ∙ then-then g (look s) (λ x. gives (put x s)) after (λ x looked. same x)
 
 -- two of which each looks at what the other leaves alone
 module _ {X Y : Type 0} {look : Survey → Report X} {put : X → Survey → Survey} {look' : Survey → Report Y} {put' : Y → Survey → Survey} where
@@ -81,11 +79,8 @@ pub record Note {I X : Type 0} (operands : Survey → Report I) (add : I → X �
 
 pub note : {I X : Type 0} (operands : Survey → Report I) (add : I → X → Report X) (get : Survey → X) (put : X → Survey → Survey) {f : Survey → Report Survey}
     → ((s : Survey) → (operands s then λ i. add i (get s) then λ x. gives (put x s)) ≡ f s) → Note operands add get put f
-note operands add get put adds = record { part = record { is = λ s. in-turn (operands s) (λ i. add i (get s)) (λ x. gives (put x s)) ∙ adds s } }
-  where
-    in-turn : {I X A : Type 0} (r : Report I) (f : I → Report X) (k : X → Report A) → r then f then k ≡ (r then λ i. f i then k)
-    in-turn (refused n) f k = refl
-    in-turn (gives i) f k = refl
+note operands add get put adds =
+    record { part = record { is = λ s. then-then (λ x. gives (put x s)) (operands s) (λ i. add i (get s)) _ (λ i given. refl) ∙ adds s } }
 
 -- two that add to the same. The second looks at what the first has put there, and else at what it left alone
 abbrev pub Again : {I X : Type 0} → (Survey → Report I) → (I → X → Report X) → (Survey → X) → (X → Survey → Survey) → Type 0

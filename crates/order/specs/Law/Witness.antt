@@ -1,18 +1,15 @@
--- What is shown of books in another order leaves nothing out: each kind of a line's commands moves. It is not empty: document 01's listing with its height tree
--- first is such a book, and comes to the listing's totals. And it says no more than it should: a command past its line's closing is not in its line any more, and two
--- books that are refused may be refused for different things.
+-- What is shown of books in another order is not empty: document 01's listing with its height tree first is such a book, and comes to the listing's totals. And of two
+-- such books that are refused nothing more is said: they may be refused for different things.
 use Prim.Native.Nat.{ℕ, zero, suc, _≤_}
 use native.Mathlib.Omega.{arith}
 use mathlib.Core.Path.{_≡_, _∙_, refl, ap}
-use mathlib.Core.Bool.{true}
 use mathlib.Core.List.{List, [], _∷_, _++_}
 use lib.ListN.{length, replicate}
 use borrow.Author.Tests.{le-ltb}
 use Rattle.biomass.specs.Tariff.{singleTariff}
 use Rattle.codec.specs.Command.{Fits}
 use Rattle.codec.specs.declared.command.Command.{Command}
-use Rattle.codec.specs.declared.command.Species.{Species}
-use Rattle.codec.specs.declared.command.Command.the-variants.{Factor, Measured, Height, Close, End, Small}
+use Rattle.codec.specs.declared.command.Command.the-variants.{Measured, Height, Close, End}
 use Rattle.survey.specs.Reader.{encodeAll}
 use Rattle.survey.specs.Survey.{fresh, declare, opened, openLine, measure, giveHeight}
 use Rattle.survey.specs.AsWritten.{asWritten}
@@ -25,27 +22,9 @@ use Rattle.survey.specs.Law.Reach.{AllFit, none, and-next}
 use Rattle.survey.specs.Law.Playing.{play-of-list}
 use Rattle.survey.specs.Law.Demand3.{demanded}
 use Rattle.survey.specs.Law.Listing.{listing-totalled}
-use Rattle.order.specs.Order.{others, inStretch, howMany, SameBag, SameLines, Reordered, exchange, and-then, OtherOrder}
+use Rattle.order.specs.Order.{Reordered, exchange, and-then, OtherOrder}
 use Rattle.order.specs.Law.Lines.{reordered-lines}
 use Rattle.order.specs.Law.Order.{books-of-lists, order-is-chance, accepted-both}
-
--- ---- nothing is left out: each kind of a line's commands passes the others, and both kinds of declarations
-
-module _ (class count cm tenths carbon many id at factor : ℕ) (x : Species) where
-  abbrev oneOrder : List Command
-  oneOrder = Measured class count ∷ Height cm tenths ∷ Small carbon many ∷ Command.Species id x ∷ Factor at factor ∷ []
-
-  abbrev anotherOrder : List Command
-  anotherOrder = Command.Species id x ∷ Factor at factor ∷ Small carbon many ∷ Height cm tenths ∷ Measured class count ∷ []
-
-  by-stretch : (i : ℕ) → SameBag (inStretch i oneOrder) (inStretch i anotherOrder)
-  unfolding inStretch howMany
-  by-stretch zero = record { as-many = λ such. omega arith }
-  by-stretch (suc i) = record { as-many = λ such. refl }
-
-  pub each-kind-moves : SameLines oneOrder anotherOrder
-  unfolding others
-  each-kind-moves = record { same-others = refl; same-stretches = by-stretch }
 
 -- ---- the listing with its height tree first
 
@@ -92,12 +71,7 @@ height-first-totalled sheet room q beside promised =
     accepted-both (order-is-chance listing (encodeAll heightFirst) listing-other-order sheet _ q _ beside (kept-promise listing sheet) promised)
     listingTotals (listing-totalled sheet room)
 
--- ---- what is not said
-
--- past the closing of its line a command is of that line no more
-pub past-closing : SameLines (fourTrees ∷ Close ∷ []) (Close ∷ fourTrees ∷ []) → ⊥
-unfolding inStretch howMany
-past-closing same = let as-many = same .same-stretches 0 .as-many (λ c. true) in absurd (omega (arith, as-many))
+-- ---- two that are refused
 
 -- 983,025 trees in 15 commands, and as many in one more are above 1,000,000 (11); a height tree of 10 cm and 60.0 m has no tariff up to 50 (13)
 abbrev manyTrees : Command
