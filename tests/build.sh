@@ -24,11 +24,11 @@ need() { # NAME COMMAND...
 
 # Building one of these proves its crate once more, so one that is newer than every file it is made of is kept.
 stale() { # BUILT CRATE...
-    [ ! -f "$1" ] || [ -n "$(find crates.txt "${@:2}" -newer "$1" -print -quit)" ]
+    [ ! -f "$1" ] || [ -n "$(find crates.txt "${@:2}" -name out -prune -o -type f -newer "$1" -print -quit)" ]
 }
 
 build_library() {
-    ! stale "$library" "${lower[@]}" crates/fieldbook || need "the proved library" within "$proof_limit" rt staticlib fieldbook
+    ! stale "$library" "${lower[@]}" crates/fieldbook || need "the proved library" within "$proof_limit" ./build fieldbook
 }
 
 build_programs() { # PROGRAM...
@@ -36,7 +36,7 @@ build_programs() { # PROGRAM...
     for program; do
         if stale "target/bin/$program" "${lower[@]}" "crates/$program"; then old+=("$program"); fi
     done
-    [ "${#old[@]}" -eq 0 ] || need "the proved programs" within "$proof_limit" rt check "${old[@]}"
+    [ "${#old[@]}" -eq 0 ] || need "the proved programs" within "$proof_limit" ./build "${old[@]}"
 }
 
 cargo_in_work() { # COMMAND FOLDER ARGUMENT...

@@ -1,6 +1,6 @@
 /*
  * Woodland carbon from a field book, for C and C++: totalling a book, reading and writing its commands, and the single
- * figures, by the proved library. `rt staticlib fieldbook` writes it to target/staticlib/libfieldbook.a, for x86-64
+ * figures, by the proved library. `./build fieldbook` writes it to target/staticlib/libfieldbook.a, for x86-64
  * Linux. The repository's README says how a book is coded and what the figures mean.
  *
  * Each function answers 0, or the number of a refusal, and puts what it found into the numbers that the caller lends.

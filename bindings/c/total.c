@@ -3,7 +3,7 @@
  * where it is totalled, 1 where it is refused, and 2 where the file cannot be read or the text not be written. From
  * the repository's root:
  *
- *     rt staticlib fieldbook
+ *     ./build fieldbook
  *     gcc -std=c99 -I bindings/c bindings/c/total.c target/staticlib/libfieldbook.a -o target/total
  *     target/total examples/listing.book
  */

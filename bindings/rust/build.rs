@@ -1,4 +1,4 @@
-//! Links the proved archive, which `rt staticlib fieldbook` writes. Where it stands in another folder than this
+//! Links the proved archive, which `./build fieldbook` writes. Where it stands in another folder than this
 //! repository's, FIELDBOOK_LIB is the absolute path of that folder.
 use std::{env, path::PathBuf};
 

@@ -1,6 +1,6 @@
 //! Totals the book in a file, and prints its rows and the project as the program `sheet` does. The exit status is 0
 //! where it is totalled, 1 where it is refused, and 2 where the file cannot be read or the text not be written. From
-//! this crate's folder, after `rt staticlib fieldbook`:
+//! this crate's folder, after `./build fieldbook`:
 //!
 //!     cargo run --example total ../../examples/listing.book
 use fieldbook::{sheet_row, total, Refusal, Refused, SHEET};

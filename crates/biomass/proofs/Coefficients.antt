@@ -1,20 +1,17 @@
 -- What the crown and the root ask of the numbers of their tables: read back from 64 signed bits they are what they were.
 use Prim.Native.Nat.{ℕ, ◌^◌, ◌<◌, ◌≤◌}
-use native.Mathlib.Nat.{le_trans, le_of_lt, lt_trans, lt_of_le_of_lt}
+use native.Mathlib.Nat.{le_trans, le_of_lt, lt_of_le_of_lt}
 use mathlib.Core.Path.{◌≡◌, ◌∙◌, sym, ap, ap₂, subst₂}
 use mathlib.Core.Bool.{cond}
 use mathlib.Core.List.{List, []}
-use lib.Dec.{T, leb, lit<, lit≤}
+use lib.Dec.{leb, lit<, lit≤}
 use lib.ListN.{get_or}
 use lib.IntN.{ℤ, pos, nat_abs}
-use lib.Signed.{non_neg}
-use mir.Syntax.{w64}
-use mir.Val.{Fits}
 use borrow.Author.Tests.{le-leb, lt-leb}
 use Rattle.powers.specs.Diameter.{least_d, greatest_d}
 use Rattle.biomass.specs.Ends.{Ends, range, entry, curve, straight}
-use Rattle.biomass.specs.Law.Report.{Inside}
-use Rattle.biomass.specs.Law.Ends.{Coefficient, Rising}
+use Rattle.biomass.specs.Bounds.{Inside, Rising}
+use Rattle.biomass.proofs.Law.Ends.{Coefficient}
 use Rattle.biomass.specs.declared.units.BiomassRange.{BiomassRange}
 use Rattle.biomass.proofs.Small.{local, mag_le, read_back}
 
@@ -35,15 +32,9 @@ module _ {table : List (List ℤ)} {last most from : ℕ} (groups : Groups table
   k : Coefficient (entry table group 0) most
   k = groups.coefficient group in_table.most
 
-  -- a coefficient is not negative, so that its cast to an unsigned number is itself
+  -- a coefficient is not negative
   size : local (get_or row 0 (pos 0)) ≡ pos (nat_abs (entry table group 0))
   size = as_read 0 (le_trans k.small (le_trans (le_of_lt groups.few) (lit≤ tt))) ∙ k.is_whole
-
-  pub not_negative : T (non_neg (local (get_or row 0 (pos 0))))
-  not_negative = rw size tt
-
-  pub cast_fits : Fits w64 (nat_abs (local (get_or row 0 (pos 0))))
-  cast_fits = rw size (record { fits = lt_of_le_of_lt k.small (lt_trans groups.few (lit< tt)) })
 
   pub narrow : nat_abs (local (get_or row 0 (pos 0))) < 2 ^ 20
   narrow = rw size (lt_of_le_of_lt k.small groups.few)

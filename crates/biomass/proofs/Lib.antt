@@ -1,4 +1,5 @@
+-- What is proved of the definitions of specs/.
+pub mod Law
 -- Laws that the proofs of several routines share.
 pub mod Small
 pub mod Coefficients
-pub mod Hundredths

@@ -6,7 +6,7 @@
 --
 -- Definitions
 --     f : ℕ → ℕ → ℤ           f makes a whole number of either sign (ℤ) of two that are 0 or more (ℕ). The lines below it say which
---     f x y                   f at x and y. Of `_div_` the two stand on both sides: x div m
+--     f x y                   f at x and y. Of `◌div◌` the two stand where the circles are: x div m
 --     f zero = ..             f by cases: what it is at 0,
 --     f (suc n) = ..          and what it is at n + 1, in words of n. So too by the cases of anything else
 --     λ x. e                  the function that makes e of x
@@ -15,11 +15,11 @@
 -- Whole numbers
 --     x + y, x * y, x ^ y     sum, product, and x to the power y. x / y and x % y: the quotient without its remainder, and the remainder
 --     x - y                   is cut off at 0 where y is above x. Wherever a definition has it, a proof stands beside it that nothing is cut off
---     pos n, negsuc n         the numbers of ℤ: n itself, and −(n + 1). negℤ x is −x; natAbs x is x without its sign
+--     pos n, negsuc n         the numbers of ℤ: n itself, and −(n + 1). neg_ℤ x is −x; nat_abs x is x without its sign
 --     +ℤ -ℤ *ℤ                sum, difference and product in ℤ
 --     x div m                 the quotient in ℤ, "toward the lesser whole number": −1 div 10 = −1, −10 div 10 = −1, −11 div 10 = −2, and 19 div 10 = 1
 -- Tests, which come out true or false
---     leb x y, ltb x y, eqb x y, leZ x y      x ≤ y, x < y and x = y; x ≤ y in ℤ
+--     leb x y, ltb x y, eqb x y, le_z x y     x ≤ y, x < y and x = y; x ≤ y in ℤ
 --     cond test a b           a where the test is true, and b where it is false. test && other: whether both are true
 -- Things of several parts
 --     record { a = x; b = y } what has the parts a and b, and these are x and y; t.a is the part a of t
@@ -29,7 +29,7 @@
 -- Lists
 --     [], x ∷ l, l ++ m       the empty list; x and then l; l and then m
 --     length l, map f l       how many are in it; f of each
---     getD l i z              what stands in l at i, counted from 0, and z past the end
+--     get_or l i z            what stands in l at i, counted from 0, and z past the end
 --     take k l, drop k l      the first k of l, and the rest
 --     set l i x, replicate n x        l with x at i; n times x
 -- Reports (Report.antt): gives x, a figure; refused n, document 01's number of a refusal. A list of checks is read from the top
@@ -47,8 +47,9 @@
 --     record R .. where       a statement of several, which are all to hold. data D .. where: one that holds where one of the cases does
 -- `use` names what a file takes from others; what it takes from `declared` are the types of the code, as Rust has them: `declared.units.Grams` is the type
 -- Grams of src/units.rt. `pub`, `abbrev`, `unfoldable`, `unfolding` and `infixl` matter only to proofs and to the order of signs.
--- What a routine of src/ promises: `ensures { λ r. ⌜ P ⌝ }` is the statement P of what it answers, r. Of bytes b that are lent to it, `now b.entry` are those
--- when it is called and `now b.exit` those when it answers.
+-- A remark's `Law.Tree: parts_bounded` is a theorem of proofs/Law/Tree.antt. What is proved there need not be believed.
+-- What a routine of src/ promises: `ensures { P }` is the statement P of what it answers, `result`. Of bytes b that are lent to it to be read, `b.now` are those; of
+-- bytes that it may change, `b.old` are those when it is called and `b.new` those when it answers. `requires { P }` is what a routine asks of its callers.
 pub mod Whole
 pub mod Report
 -- the limits of a line
@@ -67,10 +68,10 @@ pub mod Tree
 -- document 02, Q-1: small trees
 pub mod SmallTrees
 pub mod Project
+-- what routines ask of each other, and how great a figure can be
+pub mod Bounds
 -- the exact value
 pub mod Fraction
 pub mod Exact
 -- document 01's marked lines
 pub mod Marked
--- what is proved of all this
-pub mod Law

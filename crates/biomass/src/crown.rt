@@ -4,7 +4,7 @@ ghost use Rattle.biomass.specs.Report.{biomass};
 ghost use Rattle.powers.specs.Diameter.{least_d, greatest_d};
 ghost use Rattle.biomass.specs.Ends.{range};
 ghost use Rattle.biomass.specs.Crown.{crown, crown_table, crown_ends};
-ghost use Rattle.biomass.specs.Law.Report.{Inside};
+ghost use Rattle.biomass.specs.Bounds.{Inside};
 
 use super::ends::{on_curve, on_line};
 use super::report::{Biomass, Refusal};
@@ -48,6 +48,7 @@ fn crown_in_range(group: u64, d: u64) -> BiomassRange
 }
 
 // The biomass of the crown of a tree of the mean diameter d, UNITS_TO_CM to the cm.
+#[tactic(auto, unfolding(crate::specs::Crown::crown))]
 pub fn crown(group: u64, d: u64) -> Biomass
     ensures { biomass result ≡ crown group d }
 {

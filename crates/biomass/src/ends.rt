@@ -1,7 +1,7 @@
 // The two forms that a crown and a root take: a coefficient times a power of the diameter, and above a certain diameter a straight line.
 ghost use Rattle.std.specs.Prelude.{◌≡◌, ◌<◌, ◌^◌, pos};
 ghost use Rattle.biomass.specs.Ends.{range, curve, straight};
-ghost use Rattle.biomass.specs.Law.Ends.{Rising};
+ghost use Rattle.biomass.specs.Bounds.{Rising};
 
 use super::units::{BiomassRange, Milligrams};
 use powers::diameter::UNITS_TO_CM;

@@ -2,6 +2,8 @@
 // square root that the root is worked with.
 // This crate knows nothing of books, lines or commands. Each routine makes its own checks, answers any
 // arguments at all, and promises an equation over a definition of specs/.
+#![tactic(auto)]
+
 pub mod crown;
 mod ends;
 pub mod limits;

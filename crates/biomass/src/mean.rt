@@ -3,7 +3,7 @@ ghost use Rattle.std.specs.Prelude.{◌≡◌, ◌*◌};
 ghost use Rattle.biomass.specs.Report.{count};
 ghost use Rattle.biomass.specs.Limits.{most_measured};
 ghost use Rattle.biomass.specs.Mean.{mean, mean_of};
-ghost use Rattle.biomass.specs.Law.Report.{Inside};
+ghost use Rattle.biomass.specs.Bounds.{Inside};
 
 use super::limits::MOST_MEASURED;
 use super::report::{Count, Refusal};
@@ -33,6 +33,7 @@ fn mean_of(n: u64, squares: u64) -> u64
 }
 
 // The mean diameter d, UNITS_TO_CM to the cm, of n trees whose classes in cm, squared, add up to `squares`.
+#[tactic(auto, unfolding(crate::specs::Mean::mean))]
 pub fn mean(n: u64, squares: u64) -> Count
     ensures { count result ≡ mean n squares }
 {

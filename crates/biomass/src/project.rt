@@ -19,6 +19,7 @@ fn dioxide(biomass: Milligrams) -> Grams
 }
 
 // The project's figures from the sums of all rows' lows and highs and of all rows' trees in hundredths.
+#[tactic(auto, unfolding(crate::specs::Project::project, crate::specs::Project::project_of))]
 pub fn project(sums: BiomassRange, trees: u64) -> Carbon
     ensures { carbon result ≡ project sums trees }
 {

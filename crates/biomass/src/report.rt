@@ -5,7 +5,7 @@ ghost use Rattle.biomass.specs.Report.{refusal_number};
 
 use super::units::{BiomassRange, CarbonRange};
 
-#[derive(Drop)]
+#[derive(Clone, Copy)]
 pub enum Refusal {
     // An operand is outside its range.
     Operand,
@@ -14,21 +14,21 @@ pub enum Refusal {
 }
 
 // A tariff, a mean diameter or a number of trees.
-#[derive(Drop)]
+#[derive(Clone, Copy)]
 pub enum Count {
     Is(u64),
     Refused(Refusal),
 }
 
 // A biomass between two ends.
-#[derive(Drop)]
+#[derive(Clone, Copy)]
 pub enum Biomass {
     Is(BiomassRange),
     Refused(Refusal),
 }
 
 // A carbon dioxide equivalent between two ends.
-#[derive(Drop)]
+#[derive(Clone, Copy)]
 pub enum Carbon {
     Is(CarbonRange),
     Refused(Refusal),

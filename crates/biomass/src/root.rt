@@ -4,7 +4,7 @@ ghost use Rattle.biomass.specs.Report.{biomass};
 ghost use Rattle.powers.specs.Diameter.{least_d, greatest_d, root_limit};
 ghost use Rattle.biomass.specs.Ends.{range};
 ghost use Rattle.biomass.specs.Root.{root, root_table, root_ends, y};
-ghost use Rattle.biomass.specs.Law.Report.{Inside};
+ghost use Rattle.biomass.specs.Bounds.{Inside};
 
 use super::ends::{on_curve, on_line};
 use super::report::{Biomass, Refusal};
@@ -55,6 +55,7 @@ fn root_in_range(group: u64, d: u64) -> BiomassRange
 }
 
 // The biomass of the root of a tree of the mean diameter d, UNITS_TO_CM to the cm.
+#[tactic(auto, unfolding(crate::specs::Root::root))]
 pub fn root(group: u64, d: u64) -> Biomass
     ensures { biomass result ≡ root group d }
 {

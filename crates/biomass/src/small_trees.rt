@@ -9,6 +9,7 @@ use super::units::{BiomassRange, Milligrams};
 use super::whole::within;
 
 // The biomass of so many hundredths of a small tree, each of so many mg of carbon: carbon is half of biomass.
+#[tactic(auto, unfolding(crate::specs::SmallTrees::small_trees))]
 pub fn small_trees(number: u64, carbon: u64) -> Biomass
     ensures { biomass result ≡ small_trees number carbon }
 {

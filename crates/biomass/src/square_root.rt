@@ -3,7 +3,7 @@ ghost use Rattle.std.specs.Prelude.{◌≡◌};
 ghost use Rattle.biomass.specs.SquareRoot.{square_root};
 
 // A root, and its square.
-#[derive(Drop)]
+#[derive(Clone, Copy)]
 pub struct SquareRoot {
     pub root: u64,
     pub square: u64,

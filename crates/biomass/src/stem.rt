@@ -3,7 +3,7 @@ ghost use Rattle.std.specs.Prelude.{◌≡◌, ◌≤◌, pos};
 ghost use Rattle.biomass.specs.Report.{biomass};
 ghost use Rattle.biomass.specs.Ends.{range};
 ghost use Rattle.biomass.specs.Stem.{stem, stem_ends, VL, VH};
-ghost use Rattle.biomass.specs.Law.Stem.{InRange, greatest_volume};
+ghost use Rattle.biomass.specs.Bounds.{InRange, greatest_volume};
 
 use super::report::{Biomass, Refusal};
 use super::units::{BiomassRange, Milligrams};
@@ -14,7 +14,7 @@ use powers::diameter::{GREATEST_D, LEAST_D};
 const AREA_SCALE: u64 = 400_000;
 
 // The merchantable volume between two ends, in document 01's unit for VL and VH.
-#[derive(Drop)]
+#[derive(Clone, Copy)]
 struct VolumeEnds {
     low: u64,
     high: u64,
@@ -57,6 +57,7 @@ fn stem_in_range(tariff: u64, d: u64, factor: u64, gravity: u64) -> BiomassRange
 }
 
 // The biomass of a stem of the mean diameter d, UNITS_TO_CM to the cm, at a tariff; the factor and the gravity are in hundredths.
+#[tactic(auto, unfolding(crate::specs::Stem::stem))]
 pub fn stem(tariff: u64, d: u64, factor: u64, gravity: u64) -> Biomass
     ensures { biomass result ≡ stem tariff d factor gravity }
 {

@@ -3,7 +3,7 @@ ghost use Rattle.std.specs.Prelude.{◌≡◌};
 ghost use Rattle.biomass.specs.Whole.{◌div◌};
 ghost use Rattle.biomass.specs.Report.{count};
 ghost use Rattle.biomass.specs.Tariff.{tariff_sum, from_one_to_fifty, single_tariff, line_tariff};
-ghost use Rattle.biomass.specs.Law.Report.{Inside};
+ghost use Rattle.biomass.specs.Bounds.{Inside};
 
 use super::limits::MOST_HEIGHTS;
 use super::report::{Count, Refusal};
@@ -48,6 +48,7 @@ fn one_to_fifty(tariff: i64) -> Count
 }
 
 // The tariff of a height tree: the species' four constants in units of 10^-7, the diameter in cm, the height in tenths of a metre.
+#[tactic(auto, unfolding(crate::specs::Tariff::single_tariff))]
 pub fn single_tariff(c1: i32, c2: i32, c3: i32, c4: i32, cm: u64, tenths: u64) -> Count
     ensures { count result ≡ single_tariff c1 c2 c3 c4 cm tenths }
 {
@@ -61,6 +62,7 @@ pub fn single_tariff(c1: i32, c2: i32, c3: i32, c4: i32, cm: u64, tenths: u64) -
 }
 
 // The tariff of a line, from the sum of its height trees' tariffs and their number.
+#[tactic(auto, unfolding(crate::specs::Tariff::line_tariff))]
 pub fn line_tariff(sum: u64, number: u64) -> Count
     ensures { count result ≡ line_tariff sum number }
 {

@@ -12,7 +12,7 @@ use super::units::{BiomassRange, Milligrams};
 use super::whole::within;
 
 // The tree of a line's mean diameter: all that steps 4 to 6 are worked from.
-#[derive(Drop)]
+#[derive(Clone, Copy)]
 pub struct AverageTree {
     // The line tariff, 1 to 50.
     pub tariff: u64,
@@ -29,6 +29,7 @@ pub struct AverageTree {
 }
 
 // The biomass of one tree: its stem, crown and root together.
+#[tactic(auto, unfolding(crate::specs::Tree::tree))]
 pub fn tree(t: AverageTree) -> Biomass
     ensures { biomass result ≡ tree t }
 {
@@ -51,6 +52,7 @@ pub fn tree(t: AverageTree) -> Biomass
 }
 
 // The biomass of a row: so many hundredths of a tree, each the average one.
+#[tactic(auto, unfolding(crate::specs::Tree::row_biomass))]
 pub fn row_biomass(trees: u64, t: AverageTree) -> Biomass
     ensures { biomass result ≡ row_biomass trees t }
 {

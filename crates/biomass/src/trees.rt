@@ -3,7 +3,7 @@ ghost use Rattle.std.specs.Prelude.{◌≡◌};
 ghost use Rattle.biomass.specs.Report.{count};
 ghost use Rattle.biomass.specs.Limits.{most_measured, greatest_area};
 ghost use Rattle.biomass.specs.Trees.{trees, trees_of};
-ghost use Rattle.biomass.specs.Law.Report.{Inside};
+ghost use Rattle.biomass.specs.Bounds.{Inside};
 
 use super::limits::{GREATEST_AREA, MOST_MEASURED};
 use super::report::{Count, Refusal};
@@ -18,6 +18,7 @@ fn trees_of(n: u64, p: u64, q: u64) -> u64
 }
 
 // Estimated trees in hundredths: n measured ones, scaled by p over q.
+#[tactic(auto, unfolding(crate::specs::Trees::trees))]
 pub fn trees(n: u64, p: u64, q: u64) -> Count
     ensures { count result ≡ trees n p q }
 {

@@ -1,5 +1,4 @@
--- Laws that the proofs of several routines share.
-pub mod Complement
-pub mod Operands
-pub mod Digits
+-- What is proved of the definitions of specs/.
+pub mod Law
+-- A law that the proof of `codec::reading::read` names.
 pub mod Place

@@ -1,17 +1,11 @@
--- What is read at a place: at the end nothing, and before it what the byte there says.
-use Prim.Native.Nat.{ℕ, ◌+◌, ◌≤◌, ◌<◌}
-use mathlib.Core.Path.{◌≡◌, ◌∙◌, sym}
-use mathlib.Core.List.{List}
-use lib.ListN.{length}
-use Rattle.biomass.specs.Report.{Report, refused}
+-- What is read at a place is written back there as it was: a slice of bytes holds bytes.
+use Rattle.std.proofs.Common.{◌≡◌, ℕ, List, Fits, w8}
+use Rattle.biomass.specs.Report.{Report}
 use Rattle.codec.specs.Bytes.{byte}
-use Rattle.codec.specs.Reading.{command_from, read}
-use Rattle.codec.specs.Law.RoundTrip.{read_at_end, read_by}
+use Rattle.codec.specs.Reading.{read}
+use Rattle.codec.specs.RoundTrip.{WritesBack}
+use Rattle.codec.proofs.Law.RoundTrip.{writes_back}
 use Rattle.codec.specs.declared.command.Command.{Command}
 
-module _ (s : List ℕ) (at : ℕ) where
-  pub at_end : length s ≤ at → refused 1 ≡ read s at
-  at_end h = sym (read_at_end s at h)
-
-  pub chosen : {b : ℕ} {r : Report (Command × ℕ)} → at < length s → byte s at ≡ b → r ≡ command_from b s (at + 1) → r ≡ read s at
-  chosen h e is = is ∙ sym (read_by s at _ h e)
+pub again : (s : List ℕ) (at : ℕ) (r : Report (Command × ℕ)) → ((i : ℕ) → Fits w8 (byte s i)) → r ≡ read s at → WritesBack s at r
+again s at r all answer = writes_back s at r (λ i. (all i).fits) answer

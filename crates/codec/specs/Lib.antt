@@ -6,5 +6,3 @@ pub mod Command
 pub mod Reading
 pub mod Writing
 pub mod RoundTrip
--- what is proved of all this
-pub mod Law

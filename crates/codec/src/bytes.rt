@@ -1,5 +1,5 @@
 // Numbers of one to eight bytes, high byte first, and signed ones of four in two's complement.
-ghost use Rattle.std.specs.Prelude.{◌≡◌};
+ghost use Rattle.std.specs.Prelude.{◌≡◌, ◌+◌, ◌*◌};
 ghost use Rattle.codec.specs.Bytes.{byte, number_at, bytes, store, after_store, signed, unsigned};
 
 // The byte at a place; 0 past the end.
@@ -12,6 +12,13 @@ pub fn byte(s: &[u8], at: usize) -> u8
     s[at]
 }
 
+// The number that two bytes make.
+pub(crate) fn pair(high: u8, low: u8) -> u16
+    ensures { result ≡ high * 256 + low }
+{
+    (high as u16) * 256 + (low as u16)
+}
+
 // The number in the two bytes from a place on. Here and below, a byte past the end is 0.
 pub fn two(s: &[u8], at: usize) -> u16
     ensures { result ≡ number_at 2 s.now at }
@@ -19,9 +26,7 @@ pub fn two(s: &[u8], at: usize) -> u16
     if s.len() <= at {
         return 0;
     }
-    let high = byte(s, at) as u16;
-    let low = byte(s, at + 1) as u16;
-    high * 256 + low
+    pair(byte(s, at), byte(s, at + 1))
 }
 
 // The number in the four bytes from a place on.

@@ -1,7 +1,7 @@
 // The eight commands of a field book, each with its operands as they are written.
 
 // What a species is declared with.
-#[derive(Drop)]
+#[derive(Clone, Copy)]
 pub struct Species {
     // Crown group, 0 to 7.
     pub crown: u8,
@@ -16,7 +16,7 @@ pub struct Species {
     pub c4: i32,
 }
 
-#[derive(Drop)]
+#[derive(Clone, Copy)]
 pub enum Command {
     // 01: the species' id, and what it is declared with.
     Species(u8, Species),

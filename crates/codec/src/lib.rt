@@ -1,4 +1,6 @@
 // A command's bytes: the commands of a field book, and reading and writing one. Of `biomass` only the refusals are used here.
+#![tactic(auto)]
+
 pub mod bytes;
 pub mod command;
 pub mod reading;

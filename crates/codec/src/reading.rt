@@ -3,17 +3,18 @@ ghost use Rattle.std.specs.Prelude.{◌≡◌, ◌≤◌, length};
 ghost use Rattle.codec.specs.RoundTrip.{WritesBack};
 ghost use Rattle.codec.specs.Reading.{reading, read, place_after, species_from, factor_from, open_from, measured_from, height_from, small_from};
 
-use super::bytes::{four, signed_four, two};
+use super::bytes::{four, pair, signed_four, two};
 use super::command::{Command, Species};
 use super::refusal::Refusal;
 
 // The command and the place after it, or why there is none.
-#[derive(Drop)]
+#[derive(Clone, Copy)]
 pub enum Reading {
     Is(Command, usize),
     Refused(Refusal),
 }
 
+#[tactic(auto, unfolding(crate::specs::Reading::species_from))]
 fn read_species(book: &[u8], from: usize) -> Reading
     requires { from ≤ length book.now }
     ensures { reading result ≡ species_from book.now from }
@@ -33,6 +34,7 @@ fn read_species(book: &[u8], from: usize) -> Reading
     Reading::Is(Command::Species(book[from], species), from + 20)
 }
 
+#[tactic(auto, unfolding(crate::specs::Reading::factor_from))]
 fn read_factor(book: &[u8], from: usize) -> Reading
     requires { from ≤ length book.now }
     ensures { reading result ≡ factor_from book.now from }
@@ -47,6 +49,7 @@ fn read_factor(book: &[u8], from: usize) -> Reading
     Reading::Is(command, from + 2)
 }
 
+#[tactic(auto, unfolding(crate::specs::Reading::open_from))]
 fn read_open(book: &[u8], from: usize) -> Reading
     requires { from ≤ length book.now }
     ensures { reading result ≡ open_from book.now from }
@@ -63,6 +66,7 @@ fn read_open(book: &[u8], from: usize) -> Reading
     Reading::Is(command, from + 10)
 }
 
+#[tactic(auto, unfolding(crate::specs::Reading::measured_from))]
 fn read_measured(book: &[u8], from: usize) -> Reading
     requires { from ≤ length book.now }
     ensures { reading result ≡ measured_from book.now from }
@@ -72,11 +76,12 @@ fn read_measured(book: &[u8], from: usize) -> Reading
     }
     let command = Command::Measured {
         class: book[from],
-        count: two(book, from + 1),
+        count: pair(book[from + 1], book[from + 2]),
     };
     Reading::Is(command, from + 3)
 }
 
+#[tactic(auto, unfolding(crate::specs::Reading::height_from))]
 fn read_height(book: &[u8], from: usize) -> Reading
     requires { from ≤ length book.now }
     ensures { reading result ≡ height_from book.now from }
@@ -86,11 +91,12 @@ fn read_height(book: &[u8], from: usize) -> Reading
     }
     let command = Command::Height {
         cm: book[from],
-        tenths: two(book, from + 1),
+        tenths: pair(book[from + 1], book[from + 2]),
     };
     Reading::Is(command, from + 3)
 }
 
+#[tactic(auto, unfolding(crate::specs::Reading::small_from))]
 fn read_small(book: &[u8], from: usize) -> Reading
     requires { from ≤ length book.now }
     ensures { reading result ≡ small_from book.now from }
@@ -106,6 +112,7 @@ fn read_small(book: &[u8], from: usize) -> Reading
 }
 
 // The command at a place of a book.
+#[tactic(auto, using(crate::proofs::Place::again), unfolding(crate::specs::Reading::read, crate::specs::Reading::command_from))]
 pub fn read(book: &[u8], at: usize) -> Reading
     ensures answer { reading result ≡ read book.now at }
     ensures again { WritesBack book.now at (reading result) }
@@ -127,7 +134,16 @@ pub fn read(book: &[u8], at: usize) -> Reading
     }
 }
 
+// Any other command. It is a routine of its own since what a call answers lies in memory that is cleared where the routine
+// with the call begins: in `read_of_line` that would be done for each measured tree.
+fn read_other(book: &[u8], at: usize) -> Reading
+    ensures { reading result ≡ read book.now at }
+{
+    read(book, at)
+}
+
 // What `read` answers, with the commands of an open line looked for first: nearly all commands of a long book are of these two.
+#[tactic(auto, unfolding(crate::specs::Reading::read, crate::specs::Reading::command_from))]
 pub fn read_of_line(book: &[u8], at: usize) -> Reading
     ensures { reading result ≡ read book.now at }
 {
@@ -137,7 +153,7 @@ pub fn read_of_line(book: &[u8], at: usize) -> Reading
     match book[at] {
         0x04 => read_measured(book, at + 1),
         0x05 => read_height(book, at + 1),
-        _ => read(book, at),
+        _ => read_other(book, at),
     }
 }
 

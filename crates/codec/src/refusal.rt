@@ -3,7 +3,7 @@ ghost use Rattle.std.specs.Prelude.{◌≡◌};
 ghost use Rattle.biomass.specs.Report.{refusal_number};
 ghost use Rattle.codec.specs.Refusal.{number};
 
-#[derive(Drop)]
+#[derive(Clone, Copy)]
 pub enum Refusal {
     // Reading: the place is at or past the end.
     AtEnd,

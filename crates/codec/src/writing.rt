@@ -10,7 +10,7 @@ use super::command::{Command, Species};
 use super::refusal::Refusal;
 
 // The place after what was written, or why nothing was.
-#[derive(Drop)]
+#[derive(Clone, Copy)]
 pub enum Written {
     Next(usize),
     Refused(Refusal),
@@ -115,6 +115,7 @@ fn store_command(buffer: &mut [u8], at: usize, command: Command)
 }
 
 // Writes a command from a place on. Where it does not fit, nothing is written.
+#[tactic(auto, unfolding(crate::specs::Writing::write, crate::specs::Bytes::store))]
 pub fn write(buffer: &mut [u8], at: usize, command: Command) -> Written
     ensures answer { writing result ≡ write buffer.old at command }
     ensures stored { buffer.new ≡ buffer_after buffer.old at command }

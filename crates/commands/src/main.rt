@@ -5,22 +5,25 @@
 //
 // The commands are printed as they stand. Whether their operands are in range, whether the book has its end, and whether
 // commands follow it, is for totalling to judge: a book that is listed here to its last byte may still be refused there.
+#![tactic(auto)]
+
 ghost use Rattle.std.specs.Prelude.{◌≡◌, nat_abs};
 
 use codec::command::{Command, Species};
 use codec::reading::Reading;
 use console::{Output, input_buffer, read_input, too_long};
+use std::io::Write;
 use survey::reader::{command_at, read_through};
 
-// How far a number is from 0. A negative one is taken from -1 first, since the least has no opposite in 32 bits.
+// How far a number is from 0.
 fn size(n: i32) -> u64
     ensures { result ≡ nat_abs n }
 {
-    if n < 0 { (-1 - n) as u64 + 1 } else { n as u64 }
+    u64::from(n.unsigned_abs())
 }
 
 // A number with its sign, after a space.
-fn print_constant(output: Output, n: i32) -> Output {
+fn print_constant<W: Write + Drop>(output: Output<W>, n: i32) -> Output<W> {
     if n < 0 {
         output.named(b" -", size(n))
     } else {
@@ -28,14 +31,14 @@ fn print_constant(output: Output, n: i32) -> Output {
     }
 }
 
-fn print_constants(output: Output, species: Species) -> Output {
+fn print_constants<W: Write + Drop>(output: Output<W>, species: Species) -> Output<W> {
     let c1 = print_constant(output, species.c1);
     let c2 = print_constant(c1, species.c2);
     let c3 = print_constant(c2, species.c3);
     print_constant(c3, species.c4)
 }
 
-fn print_species(output: Output, id: u8, species: Species) -> Output {
+fn print_species<W: Write + Drop>(output: Output<W>, id: u8, species: Species) -> Output<W> {
     let operands = output
         .named(b"species ", id as u64)
         .named(b" crown ", species.crown as u64)
@@ -45,7 +48,7 @@ fn print_species(output: Output, id: u8, species: Species) -> Output {
     print_constants(operands, species)
 }
 
-fn print_command(output: Output, command: Command) -> Output {
+fn print_command<W: Write + Drop>(output: Output<W>, command: Command) -> Output<W> {
     match command {
         Command::Species(id, species) => print_species(output, id, species),
         Command::Factor { cm, factor } => {
@@ -86,7 +89,7 @@ fn print_command(output: Output, command: Command) -> Output {
 }
 
 // The line of what was read at a place. `read_through` counted a command there, so none is passed over.
-fn print_line(output: Output, at: usize, reading: Reading) -> Output {
+fn print_line<W: Write + Drop>(output: Output<W>, at: usize, reading: Reading) -> Output<W> {
     match reading {
         Reading::Is(command, _) => {
             let place = output.number(at as u64).text(b" ");
@@ -97,7 +100,7 @@ fn print_line(output: Output, at: usize, reading: Reading) -> Output {
 }
 
 // So many commands, from the first on.
-fn print_commands(output: Output, book: &[u8], commands: usize) -> Output {
+fn print_commands<W: Write + Drop>(output: Output<W>, book: &[u8], commands: usize) -> Output<W> {
     let mut printed = output;
     let mut at = 0;
     for _ in 0..commands {
@@ -109,25 +112,27 @@ fn print_commands(output: Output, book: &[u8], commands: usize) -> Output {
     printed
 }
 
-fn print_book(book: &[u8]) {
+fn print_book<W: Write + Drop>(output: Output<W>, book: &[u8]) -> Output<W> {
     let extent = read_through(book, 0);
     let at = extent.at;
     let why = extent.why;
-    let output = print_commands(Output::new(), book, extent.commands)
+    let printed = print_commands(output, book, extent.commands)
         .named(b"commands ", extent.commands as u64)
         .named(b" bytes ", at as u64)
         .text(b"\n");
     // After the last byte there is no command to refuse.
     if at < book.len() {
-        output.refusal(why.number(), at);
+        printed.refusal(why.number(), at)
+    } else {
+        printed
     }
 }
 
-fn main() {
+fn main(rt: HostRuntime) {
     let mut buffer = input_buffer();
-    let n = read_input(&mut buffer);
-    if too_long(n) {
+    let n = read_input(&mut rt.stdin(), &mut buffer);
+    if too_long(&rt, n) {
         return;
     }
-    print_book(&buffer[..n]);
+    print_book(Output::new(&rt), &buffer[..n]).finish();
 }

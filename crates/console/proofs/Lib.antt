@@ -1,2 +1,2 @@
 -- Laws that the proofs of several routines share.
-pub mod Failure
+pub mod Printing

@@ -1,6 +1,27 @@
 -- Input and output of the programs.
-use Rattle.std.specs.Prelude.{ℕ}
+use Rattle.std.specs.Prelude.{◌≡◌, ℕ, true, List, ◌∷◌, [], ◌++◌, Option, codes}
+use Rattle.std.specs.Fmt.{decimal}
+use Rattle.std.specs.Io.Buffered.{writer_contents, writer_inner}
+use Rattle.std.specs.Io.KnownBytes.{Appends}
+use Rattle.console.specs.declared.Output.{Output}
 
 -- "a book of up to 65,536 bytes"
 abbrev pub most_bytes : ℕ
 most_bytes = 65536
+
+-- the line of a refusal, with its line end
+abbrev pub refusal_line : ℕ → ℕ → List ℕ
+refusal_line number at = codes "refused " ++ decimal number ++ codes " at " ++ decimal at ++ 10 ∷ []
+
+module _ {W : Type 0} where
+  -- the writer of an output
+  abbrev pub writer_of : Output W → W
+  writer_of o = writer_inner o.writer
+
+  -- what was printed, where the writer tells what it holds: that, and then what waits in the buffer
+  abbrev pub printed : (W → Option (List ℕ)) → Output W → Option (List ℕ)
+  printed contents o = writer_contents contents o.writer
+
+  -- unless a write has failed, new is old with bs printed after all that was printed before
+  abbrev pub Prints : (W → Option (List ℕ)) → Output W → List ℕ → Output W → Type 0
+  Prints contents old bs new = new.good ≡ true → Appends (printed contents old) (printed contents new) bs

@@ -2,5 +2,3 @@
 -- said by the crates below. How to read these files is said in biomass/specs/Lib.antt.
 pub mod Numbers
 pub mod Layout
--- what is proved of it
-pub mod Law

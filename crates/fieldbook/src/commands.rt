@@ -14,7 +14,7 @@ use codec::writing::{Written, write};
 use survey::reader::command_at;
 
 // The command that numbers stand for, or why there is none.
-#[derive(Drop)]
+#[derive(Clone, Copy)]
 enum Converted {
     Is(Command),
     Refused(Refusal),
@@ -100,6 +100,7 @@ fn species_of(n: [u64; 9]) -> Species
 }
 
 // The command of that byte, with its operands cut to their widths.
+#[tactic(auto, unfolding(crate::specs::Numbers::cut))]
 fn cut(n: [u64; 9]) -> Converted
     ensures { converted result ≡ cut n }
 {
@@ -152,6 +153,7 @@ fn same(a: [u64; 9], b: [u64; 9]) -> bool
 }
 
 // The command whose numbers these are.
+#[tactic(auto, unfolding(crate::specs::Numbers::command_of))]
 fn command_of(n: [u64; 9]) -> Converted
     ensures { converted result ≡ command_of n }
 {

@@ -1,2 +1,2 @@
--- Laws that the proofs of several routines share.
-pub mod Scaled
+-- What is proved of the definitions of specs/.
+pub mod Law

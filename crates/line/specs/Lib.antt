@@ -4,7 +4,7 @@ pub mod Line
 pub mod Row
 -- the exact value of a line
 pub mod Exact
+-- how great its figures can be
+pub mod Bounds
 -- what the code does of any line
 pub mod AnyLine
--- what is proved of all this
-pub mod Law

@@ -4,8 +4,7 @@ ghost use Rattle.biomass.specs.Report.{count};
 ghost use Rattle.biomass.specs.Ends.{between};
 ghost use Rattle.powers.specs.Diameter.{least_d, greatest_d};
 ghost use Rattle.biomass.specs.Limits.{most_estimated};
-ghost use Rattle.biomass.specs.Law.Report.{Inside};
-ghost use Rattle.biomass.specs.Law.Tree.{greatest_row};
+ghost use Rattle.biomass.specs.Bounds.{Inside, greatest_row};
 ghost use Rattle.line.specs.Line.{new_line, tariff_of, add_small, row_with, empty_row};
 ghost use Rattle.line.specs.AnyLine.{updated, estimated, scaling, add_trees, add_height, scaled, row_gaining, worked, some_row, small_row, line_row};
 
@@ -30,27 +29,27 @@ const MOST_SQUARES: u64 = 10_000 * MOST_MEASURED;
 const MOST_TARIFFS: u64 = 50 * MOST_HEIGHTS;
 
 // Measured trees: how many, and their classes in cm, squared and added.
-#[derive(Drop)]
+#[derive(Clone, Copy)]
 pub struct Tally {
     pub n: u64,
     pub squares: u64,
 }
 
 // Height trees: how many, and their tariffs added.
-#[derive(Drop)]
+#[derive(Clone, Copy)]
 pub struct Heights {
     pub number: u64,
     pub tariffs: u64,
 }
 
 // Small trees: the carbon of one in mg, and how many; a count of 0: none are given.
-#[derive(Drop)]
+#[derive(Clone, Copy)]
 pub struct SmallTrees {
     pub carbon: u64,
     pub count: u64,
 }
 
-#[derive(Drop)]
+#[derive(Clone, Copy)]
 pub struct Line {
     pub stratum: u8,
     // The species' id, and what it was declared with.
@@ -64,21 +63,21 @@ pub struct Line {
 }
 
 // The line with one command more, or why not.
-#[derive(Drop)]
+#[derive(Clone, Copy)]
 pub enum Updated {
     Is(Line),
     Refused(Refusal),
 }
 
 // The row of a line, or why it does not close.
-#[derive(Drop)]
+#[derive(Clone, Copy)]
 pub enum Estimated {
     Is(Row),
     Refused(Refusal),
 }
 
 // How many trees are estimated, in hundredths, or why a line with so many does not close.
-#[derive(Drop)]
+#[derive(Clone, Copy)]
 enum Scaled {
     Is(u64),
     Refused(Refusal),
@@ -142,6 +141,7 @@ impl Line {
     }
 
     // So many trees of a class more.
+    #[tactic(auto, unfolding(crate::specs::AnyLine::add_trees))]
     pub fn add_trees(self, class: u8, count: u16) -> Updated
         ensures { updated result ≡ add_trees class count self }
     {
@@ -169,6 +169,7 @@ impl Line {
     }
 
     // One height tree more.
+    #[tactic(auto, unfolding(crate::specs::AnyLine::add_height))]
     pub fn add_height(self, cm: u8, tenths: u16) -> Updated
         ensures { updated result ≡ add_height cm tenths self }
     {
@@ -192,6 +193,7 @@ impl Line {
     }
 
     // The small trees, which are given once.
+    #[tactic(auto, unfolding(crate::specs::Line::add_small))]
     pub fn add_small(self, carbon: u32, count: u32) -> Updated
         ensures { updated result ≡ add_small carbon count self }
     {
@@ -235,6 +237,7 @@ impl Line {
     }
 
     // The row with these figures, to which the biomass of so many small trees is added.
+    #[tactic(auto, unfolding(crate::specs::AnyLine::row_gaining))]
     fn row_gaining(
         self,
         tariff: u8,
@@ -261,6 +264,7 @@ impl Line {
     }
 
     // The row of a line whose tariff, mean diameter, factor and numbers of measured and of small trees are known.
+    #[tactic(auto, unfolding(crate::specs::AnyLine::worked))]
     fn worked(self, tariff: u64, d: u64, factor: u8, number: u64, small: u64) -> Estimated
         requires { Inside 1 tariff 50 × Inside least_d d greatest_d × (number ≤ most_estimated) × (small ≤ most_estimated) }
         ensures { estimated result ≡ worked self tariff d factor number small }
@@ -322,6 +326,7 @@ impl Line {
     }
 
     // The line closed: its row.
+    #[tactic(auto, unfolding(crate::specs::AnyLine::line_row))]
     pub fn row(self, factors: [u8; 101]) -> Estimated
         ensures { estimated result ≡ line_row factors self }
     {

@@ -9,7 +9,7 @@ use codec::bytes::{byte, eight, four, store, two};
 // How many bytes a row has in a sheet.
 pub const ROW_LENGTH: usize = 25;
 
-#[derive(Drop)]
+#[derive(Clone, Copy)]
 pub struct Row {
     pub stratum: u8,
     // The species' id.
@@ -52,6 +52,7 @@ pub fn store_row(sheet: &mut [u8], at: usize, row: Row)
 }
 
 // The row in the bytes from a place on that is not past the end.
+#[tactic(auto, unfolding(crate::specs::Row::row_from))]
 fn row_from(sheet: &[u8], at: usize) -> Row
     requires { at ≤ length sheet.now }
     ensures { result ≡ row_from sheet.now at }

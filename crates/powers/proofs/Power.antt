@@ -7,7 +7,7 @@ use native.Mathlib.Omega.{arith}
 use lib.ListN.{get_or}
 use Rattle.powers.specs.Diameter.{least_d, crown_limit}
 use Rattle.powers.specs.Crown.{tabled}
-use Rattle.powers.specs.Law.Crown.{tested_w, w_is, tabled_is_w}
+use Rattle.powers.proofs.Law.Crown.{tested_w, w_is, tabled_is_w}
 use Rattle.powers.proofs.Table.{every, at}
 
 -- the number of diameters on the curve
@@ -28,4 +28,4 @@ read_is_w xs d low high = by_test (holds_w xs) refl
     by_test false t = refl
     by_test true t =
         let place : least_d + (d - least_d) ≡ d = omega arith in
-        sym (tabled_is_w refl low high ∙ w_is d (get_or xs (d - least_d) 0) (rw place at (at _ least_d powers xs t (d - least_d) (omega arith))))
+        sym (tabled_is_w refl low high ∙ w_is d (get_or xs (d - least_d) 0) (rw place at (at tested_w least_d powers xs t (d - least_d) (omega arith))))

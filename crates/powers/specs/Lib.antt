@@ -3,5 +3,3 @@
 pub mod Diameter
 pub mod Greatest
 pub mod Crown
--- what is proved of all this
-pub mod Law

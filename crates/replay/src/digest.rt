@@ -5,7 +5,7 @@ use line::line::Line;
 use line::row::Row;
 use survey::survey::Survey;
 
-#[derive(Drop)]
+#[derive(Clone, Copy)]
 pub struct Digest(pub u64);
 
 impl Digest {
@@ -29,8 +29,8 @@ impl Digest {
 
     pub fn bytes(self, bytes: &[u8]) -> Digest {
         let mut digest = self;
-        for i in 0..bytes.len() {
-            digest = digest.byte(bytes[i]);
+        for byte in bytes {
+            digest = digest.byte(*byte);
         }
         digest
     }
@@ -68,7 +68,7 @@ impl Digest {
     }
 
     // The 16 species and the 32 rows, two rows to a species.
-    fn tables(self, survey: Survey) -> Digest {
+    fn tables(self, survey: &Survey) -> Digest {
         let mut digest = self;
         for i in 0..16 {
             let species = survey.species[i];
@@ -80,7 +80,7 @@ impl Digest {
     }
 
     // Every field of a survey.
-    pub fn survey(self, survey: Survey) -> Digest {
+    pub fn survey(self, survey: &Survey) -> Digest {
         let factors = survey.factors;
         self.tables(survey)
             .bytes(&factors)

@@ -6,7 +6,6 @@ use Rattle.codec.specs.Refusal.{number}
 use Rattle.line.specs.Line.{new_line, add_small, factor_at}
 use Rattle.rules.specs.Checks.{most_lines, declared_as, declaring, giving, opening, ending}
 use Rattle.line.specs.AnyLine.{add_trees, add_height, line_row}
-use Rattle.codec.specs.declared.command.Species.{Species}
 use Rattle.codec.specs.declared.command.Command.{Command}
 use Rattle.line.specs.declared.row.Row.{Row}
 use Rattle.line.specs.declared.line.Line.{Line}

@@ -19,7 +19,7 @@ use line::row::Row;
 pub const MOST_LINES: usize = 32;
 
 // What a taken command changes, or why it is refused.
-#[derive(Drop)]
+#[derive(Clone, Copy)]
 pub enum Change {
     // A species declared.
     Species(u8, Species),
@@ -34,7 +34,7 @@ pub enum Change {
 }
 
 // The stratum and the species that a command names; 0 where it names none.
-#[derive(Drop)]
+#[derive(Clone, Copy)]
 pub struct Named {
     // Whether it names both, and so a line.
     pub line: bool,
@@ -43,7 +43,7 @@ pub struct Named {
 }
 
 // What a command looks at of a survey, besides the line and the factors.
-#[derive(Drop)]
+#[derive(Clone, Copy)]
 pub struct Seen {
     // What stands at the place of the species that it names.
     pub there: Species,

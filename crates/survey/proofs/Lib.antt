@@ -1,3 +1,2 @@
--- Laws that the proofs of several routines share.
-pub mod Place
-pub mod ReaderWalk
+-- What is proved of the definitions of specs/.
+pub mod Law

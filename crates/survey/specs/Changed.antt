@@ -6,7 +6,6 @@ use Rattle.codec.specs.Refusal.{number}
 use Rattle.survey.specs.Survey.{with_species, with_factor, with_opened, with_row, with_end}
 use Rattle.rules.specs.Checks.{most_lines}
 use Rattle.codec.specs.declared.command.Species.{Species}
-use Rattle.line.specs.declared.line.Line.{Line}
 use Rattle.survey.specs.declared.survey.Survey.{Survey}
 use Rattle.rules.specs.declared.change.Change.{Change}
 use Rattle.rules.specs.declared.change.Seen.{Seen}

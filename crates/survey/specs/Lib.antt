@@ -16,11 +16,10 @@ pub mod Playing
 pub mod LineUpdate
 pub mod Sheet
 pub mod Total
+pub mod Bounds
 pub mod Demand3
 -- what totalling promises
 pub mod Promise
 -- document 01's listing, and its marked lines
 pub mod Listing
 pub mod Marked
--- what is proved of all this
-pub mod Law

@@ -2,9 +2,9 @@
 use Rattle.std.specs.Prelude.{ℕ, ◌*◌, ◌≤◌, ◌<◌, ◌≡◌, true, false, List, [], ◌∷◌, length, get_or, take}
 use Rattle.powers.specs.Diameter.{greatest_d}
 use Rattle.biomass.specs.Limits.{most_measured, most_heights, greatest_area, most_small, greatest_carbon}
-use Rattle.biomass.specs.Law.Report.{Inside}
+use Rattle.biomass.specs.Bounds.{Inside}
 use Rattle.line.specs.Line.{factor_at, empty_row}
-use Rattle.line.specs.Law.Estimate.{LineBounds, most_of_both}
+use Rattle.line.specs.Bounds.{LineBounds, most_of_both}
 use Rattle.survey.specs.Survey.{no_line, species_at, declared, opened}
 use Rattle.rules.specs.Checks.{most_lines, any_line}
 use Rattle.codec.specs.declared.command.Species.{Species}

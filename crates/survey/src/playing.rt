@@ -23,7 +23,7 @@ pub(crate) struct Played {
 
 // The open line after a command and the place after it, or why the command is refused; or that it is another command than
 // measured trees or a height tree, of which a line has many.
-#[derive(Drop)]
+#[derive(Clone, Copy)]
 enum LineUpdate {
     Is(Line, usize),
     Other,
@@ -31,7 +31,7 @@ enum LineUpdate {
 }
 
 // Where playing comes to a halt, and with what.
-#[derive(Drop)]
+#[derive(Clone, Copy)]
 struct Halt {
     at: usize,
     outcome: Outcome,

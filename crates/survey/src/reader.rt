@@ -14,7 +14,7 @@ pub struct BookReader<'a> {
 }
 
 // What a reader answers at a place, and the place to go on from.
-#[derive(Drop)]
+#[derive(Clone, Copy)]
 pub struct Advance {
     pub reading: Reading,
     pub at: usize,
@@ -22,7 +22,7 @@ pub struct Advance {
 
 // How far a book reads: how many commands, the place where reading stopped, and why, which is AtEnd at the end of the book
 // and past it.
-#[derive(Drop)]
+#[derive(Clone, Copy)]
 pub struct Extent {
     pub commands: usize,
     pub at: usize,

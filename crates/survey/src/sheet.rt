@@ -12,7 +12,7 @@ use rules::change::MOST_LINES;
 pub const SHEET_LENGTH: usize = MOST_LINES * ROW_LENGTH;
 
 // The row, or that the sheet has none there.
-#[derive(Drop)]
+#[derive(Clone, Copy)]
 pub enum Found {
     Is(Row),
     Refused(Refusal),
@@ -32,6 +32,7 @@ pub(crate) fn store_rows(sheet: &mut [u8], rows: [Row; MOST_LINES], closed: usiz
 }
 
 // The i-th row of a sheet, counted from 0.
+#[tactic(auto, unfolding(crate::specs::Sheet::find_row))]
 pub fn find_row(sheet: &[u8], i: usize) -> Found
     ensures { found result ≡ find_row sheet.now i }
 {

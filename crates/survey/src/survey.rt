@@ -26,7 +26,7 @@ pub struct Survey {
     pub ended: bool,
 }
 
-#[derive(Drop)]
+#[derive(Clone, Copy)]
 pub enum Outcome {
     Done,
     Refused(Refusal),

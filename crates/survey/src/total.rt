@@ -3,7 +3,7 @@ ghost use Rattle.std.specs.Prelude.{◌≡◌, ℕ, ◌≤◌, length, take};
 ghost use Rattle.codec.specs.Bytes.{stored_at};
 ghost use Rattle.rules.specs.Checks.{most_lines};
 ghost use Rattle.survey.specs.Sheet.{sheet_length, sheet_bytes};
-ghost use Rattle.survey.specs.Law.Sums.{RowsSmall};
+ghost use Rattle.survey.specs.Bounds.{RowsSmall};
 ghost use Rattle.survey.specs.Total.{answer, row_trees, sum_of, sums, refused_at, totalled, total_of};
 ghost use Rattle.survey.specs.Promise.{Promised};
 
@@ -18,7 +18,7 @@ use line::row::Row;
 use rules::change::MOST_LINES;
 
 // What comes of an accepted book.
-#[derive(Drop)]
+#[derive(Clone, Copy)]
 pub struct Totals {
     // How many rows stand in the sheet.
     pub rows: usize,
@@ -29,14 +29,14 @@ pub struct Totals {
 }
 
 // The totals, or the refusal and its place.
-#[derive(Drop)]
+#[derive(Clone, Copy)]
 pub enum Totalled {
     Is(Totals),
     Refused { why: Refusal, at: usize },
 }
 
 // The trees, the lows and the highs of all rows, each added.
-#[derive(Drop)]
+#[derive(Clone, Copy)]
 struct Sums {
     trees: u64,
     biomass: BiomassRange,

@@ -1,0 +1,8 @@
+-- `line::line::Line::add_height` meets its contract: the single tariff's refusal is the line's, and then each test of the code is the definition's.
+use Rattle.std.proofs.Common.{sym, arith}
+use Rattle.biomass.proofs.Law.Tariff.{single_tariff_range}
+use Rattle.line.proofs.line.Line.add_height.Goals as goal
+
+-- the tariff that is added is 50 at most
+pub overflow_add-tariffs : goal.overflow_add-tariffs
+overflow_add-tariffs c = omega (arith, single_tariff_range _ _ _ _ _ _ _ (sym c.in-Is.ensures))

@@ -1,0 +1,250 @@
+-- On a valid survey a command does just what the papers' text says: the checks that the definitions have besides never fail there, since what
+-- a valid line holds is in the ranges of the figures that are worked from it.
+use Rattle.std.specs.Prelude.{ℕ, zero, suc, ◌+◌, ◌*◌, ◌≤◌, ◌<◌, ◌≡◌, refl, Bool, true, false, leb, eqb}
+use Rattle.std.proofs.Common.{zero-le, mul-le-mul, mul-le-mul_left, zero-mul, zero-add, add-zero, arith, ◌∙◌, sym, subst}
+use Rattle.std.proofs.Math.Nat.{div-eq_of_lt}
+use Rattle.std.proofs.Math.Path.{ap}
+use Rattle.std.proofs.Math.Bool.{cond}
+use borrow.Author.Tests.{leb-true, le-leb, lt-leb, eqb-false}
+use Rattle.biomass.specs.Bounds.{Inside}
+use Rattle.biomass.specs.Whole.{inside}
+use Rattle.biomass.specs.Report.{Report, gives, unless, when, ◌then◌}
+use Rattle.biomass.specs.Limits.{most_measured, most_heights, most_estimated, most_small, greatest_carbon}
+use Rattle.biomass.specs.Tariff.{line_tariff}
+use Rattle.biomass.specs.Mean.{mean}
+use Rattle.biomass.specs.Trees.{trees_of, trees}
+use Rattle.biomass.specs.Ends.{between}
+use Rattle.biomass.specs.Tree.{tree_of, row_biomass, row_of}
+use Rattle.biomass.specs.SmallTrees.{small_of}
+use Rattle.biomass.proofs.Law.Report.{inside_true}
+use Rattle.biomass.proofs.Law.Tariff.{line_tariff_range}
+use Rattle.biomass.proofs.Law.Mean.{mean_range}
+use Rattle.biomass.proofs.Law.Tree.{Operands}
+use Rattle.biomass.proofs.Law.Answers.{mean_answers, trees_answers, line_tariff_answers, row_answers, small_answers}
+use Rattle.biomass.proofs.Law.Project.{none_or_some}
+use Rattle.line.specs.Line.{tallied, T_of, d_of, N_of, small_number_of, whole_cm, MeasuredPart, small_part, no_measured, gaining, row_with, estimated_row, empty_row}
+use Rattle.survey.specs.Survey.{with_row, measure, give_height, f_of, tree_at, some_measured, measured_at, estimate, closing_row, close_small, close}
+use Rattle.rules.specs.Checks.{most_lines}
+use Rattle.survey.specs.AsWritten.{as_written}
+use Rattle.survey.specs.Apply.{apply_measured, apply_height, apply_close, apply}
+use Rattle.line.specs.AnyLine.{most_squares, most_tariffs, add_trees, add_height, scaled, row_gaining, worked, some_row, small_row, line_row}
+use Rattle.survey.specs.Valid.{ValidSpecies, ValidTally, ValidHeights, ValidSmall, Valid}
+use Rattle.codec.specs.declared.command.Command.{Command}
+use Rattle.line.specs.declared.row.Row.{Row}
+use Rattle.line.specs.declared.line.Tally.{Tally}
+use Rattle.line.specs.declared.line.Heights.{Heights}
+use Rattle.line.specs.declared.line.Line.{Line}
+use Rattle.biomass.specs.declared.units.BiomassRange.{BiomassRange}
+use Rattle.biomass.proofs.Law.SameChecks.{when_same, unless_same, when_then, unless_then, cond_then, then_then, passed_then, answered_then}
+use Rattle.survey.specs.declared.survey.Survey.{Survey}
+
+-- ---- measured trees and height trees
+
+-- each tree measured adds from 7² to 100² to S
+pub tallied_valid : (t : Tally) (class count : ℕ) → ValidTally t → Inside 7 class 100 → t.n + count ≤ most_measured → ValidTally (tallied class count t)
+tallied_valid t class count before in_class few =
+    let least : count * (7 * 7) ≤ count * (class * class) = mul-le-mul_left count (mul-le-mul in_class.least in_class.least) in
+    let most : count * (class * class) ≤ count * (100 * 100) = mul-le-mul_left count (mul-le-mul in_class.most in_class.most) in
+    record { few = few; squares = omega (arith, before.squares) }
+
+-- so that S is within what the most trees come to
+squares_within : (s : Survey) → Valid s → s.active ≡ true → leb s.line.tally.squares most_squares ≡ true
+squares_within s v is_open =
+    let tally = (v.line is_open).tally in
+    let most : s.line.tally.squares ≤ most_squares = omega (arith, tally.few, tally.squares) in
+    le-leb _ _ most
+
+-- each height tree adds from 1 to 50 to the tariffs
+pub heights_valid : (h : Heights) (T : ℕ) → ValidHeights h → Inside 1 T 50 → h.number < most_heights
+    → ValidHeights (record { number = h.number + 1; tariffs = h.tariffs + T })
+heights_valid h T before T_range room = record { few = omega arith; tariffs = omega (arith, before.tariffs) }
+
+tariffs_within : (s : Survey) → Valid s → s.active ≡ true → leb s.line.heights.tariffs most_tariffs ≡ true
+tariffs_within s v is_open =
+    let heights = (v.line is_open).heights in
+    let most : s.line.heights.tariffs ≤ most_tariffs = omega (arith, heights.few, heights.tariffs) in
+    le-leb _ _ most
+
+-- ---- small trees
+
+pub small_given_lem : (carbon count : ℕ) → inside 1 carbon greatest_carbon ≡ true → inside 1 count most_small ≡ true
+    → ValidSmall (record { carbon = carbon; count = count })
+small_given_lem carbon count in_carbon in_count =
+    let c = inside_true 1 carbon greatest_carbon in_carbon in
+    record { few = (inside_true 1 count most_small in_count).most; some = λ _. c.least; light = c.most }
+
+-- step 3 of none is none, so that where small trees are estimated some were counted
+none_scaled : (p q : ℕ) → 1 ≤ q → trees_of 0 p q ≡ 0
+none_scaled p q some = div-eq_of_lt (omega arith)
+
+pub some_counted : (l : Line) → 1 ≤ l.q → 0 < small_number_of l → 0 < l.small.count
+some_counted l plots some = by_count l.small.count some
+  where
+    by_count : (count : ℕ) → 0 < trees_of count l.p l.q → 0 < count
+    by_count zero h = omega (arith, none_scaled l.p l.q plots)
+    by_count (suc count) h = omega arith
+
+-- and none add nothing
+nothing_gained : (m : BiomassRange) (carbon : ℕ) → m ≡ gaining m (small_of 0 carbon)
+nothing_gained m carbon = simp (zero-mul, add-zero)
+
+-- ---- what is estimated of a line, by whether it has measured trees
+
+module _ (s : Survey) where
+  pub measured_by : {test : Bool} → eqb s.line.tally.n 0 ≡ test → measured_at s ≡ cond test no_measured (some_measured s)
+  unfolding measured_at
+  measured_by = ap (λ (test : Bool). cond test no_measured (some_measured s))
+
+  -- its row, with what the measured part is known to be
+  row_by : {part : MeasuredPart} → measured_at s ≡ part
+      → closing_row s ≡ estimated_row s.line (record { measured = part; small = small_part s.line })
+  unfolding closing_row estimate
+  row_by = ap (λ (part : MeasuredPart). estimated_row s.line (record { measured = part; small = small_part s.line }))
+
+  -- "A line with n = 0 closes with tariff, d, N, low and high all 0", where it has no small trees
+  pub row_of_none : 1 ≤ s.line.q → eqb s.line.tally.n 0 ≡ true → s.line.small.count ≡ 0 → closing_row s ≡ empty_row s.line
+  row_of_none plots none uncounted =
+      let l = s.line in
+      let nothing : small_number_of l ≡ 0 = ap (λ (count : ℕ). trees_of count l.p l.q) uncounted ∙ none_scaled l.p l.q plots in
+      row_by (measured_by none)
+      ∙ ap (λ (number : ℕ). estimated_row l (record { measured = no_measured; small = record { number = number; carbon = l.small.carbon } })) nothing
+      ∙ simp zero-mul
+
+-- ---- closing
+
+-- all that the tree of a valid survey's open line is worked from, in its ranges, where the line has measured trees, a height tree and a factor
+pub line_operands : (s : Survey) → Valid s → s.active ≡ true → 1 ≤ s.line.tally.n → 1 ≤ s.line.heights.number → 0 < f_of s → Operands (tree_at s)
+line_operands s v is_open trees heights factor =
+    let l = s.line in
+    let vl = v.line is_open in
+    let T_is = line_tariff_answers l.heights.tariffs l.heights.number (record { least = heights; most = vl.heights.few }) vl.heights.tariffs in
+    let species : ValidSpecies l.species = subst ValidSpecies (sym vl.species) (v.species l.id vl.is_declared) in
+    record {
+      tariff = line_tariff_range l.heights.tariffs l.heights.number (T_of l) T_is;
+      d = mean_range l.tally.n l.tally.squares (record { least = trees; most = vl.tally.few }) vl.tally.squares;
+      factor = (v.factors (whole_cm (d_of l)) factor).hundredths;
+      gravity = species.gravity;
+      crown = species.crown;
+      root = species.root;
+    }
+
+pub not_zero : (n : ℕ) → eqb n 0 ≡ false → 1 ≤ n
+not_zero n e = let other = eqb-false n 0 e in omega arith
+
+-- where a line is open, step 3 answers, of the measured count and of the small one; where it has measured trees, step 2; with a height tree, step 1; and with a
+-- factor and few enough trees, steps 4 to 7
+module _ (s : Survey) (v : Valid s) (is_open : s.active ≡ true) where
+  n_answered : trees s.line.tally.n s.line.p s.line.q ≡ gives (N_of s.line)
+  n_answered =
+      let vl = v.line is_open in
+      trees_answers s.line.tally.n s.line.p s.line.q (record { least = zero-le; most = vl.tally.few }) vl.p vl.q
+
+  count_answered : trees s.line.small.count s.line.p s.line.q ≡ gives (small_number_of s.line)
+  count_answered =
+      let vl = v.line is_open in
+      trees_answers s.line.small.count s.line.p s.line.q (record { least = zero-le; most = vl.small.few }) vl.p vl.q
+
+  module _ (some : eqb s.line.tally.n 0 ≡ false) where
+    n_range : Inside 1 s.line.tally.n most_measured
+    n_range = record { least = not_zero s.line.tally.n some; most = (v.line is_open).tally.few }
+
+    mean_known : mean s.line.tally.n s.line.tally.squares ≡ gives (d_of s.line)
+    mean_known = mean_answers s.line.tally.n s.line.tally.squares n_range (v.line is_open).tally.squares
+
+    module _ (heights : eqb s.line.heights.number 0 ≡ false) where
+      tariff_known : line_tariff s.line.heights.tariffs s.line.heights.number ≡ gives (T_of s.line)
+      tariff_known =
+          let vl = v.line is_open in
+          line_tariff_answers s.line.heights.tariffs s.line.heights.number
+          (record { least = not_zero s.line.heights.number heights; most = vl.heights.few }) vl.heights.tariffs
+
+      row_known : eqb (f_of s) 0 ≡ false → leb (N_of s.line) most_estimated ≡ true → row_biomass (N_of s.line) (tree_at s) ≡ gives (row_of (N_of s.line) (tree_of (tree_at s)))
+      row_known given small =
+          row_answers (N_of s.line) (tree_at s) (record { least = zero-le; most = leb-true _ _ small })
+          (line_operands s v is_open n_range.least (not_zero s.line.heights.number heights) (not_zero (f_of s) given))
+
+  -- of few enough small trees the biomass is added; of none there is nothing to add
+  gained : (T d N : ℕ) (m : BiomassRange) → leb (small_number_of s.line) most_estimated ≡ true
+      → row_gaining s.line T d N m (small_number_of s.line) ≡ gives (row_with s.line T d N (gaining m (small_of (small_number_of s.line) s.line.small.carbon)))
+  unfolding row_gaining
+  gained T d N m few =
+      let number = small_number_of s.line in
+      let carbon = s.line.small.carbon in
+      none_or_some (λ (r : Report Row). r ≡ gives (row_with s.line T d N (gaining m (small_of number carbon)))) number _ _
+      (λ none. ap (λ (x : BiomassRange). gives (row_with s.line T d N x)) (rw none (nothing_gained m carbon)))
+      (λ some.
+      let vl = v.line is_open in
+      let counted = some_counted s.line vl.q.least some in
+      rw (small_answers number carbon (record { least = zero-le; most = leb-true _ _ few }) (record { least = vl.small.some counted; most = vl.small.light })))
+
+-- a number of trees that step 3 gives is refused where it is too great, and else goes on
+scaled_then : {A B : Type 0} {N : ℕ} (n p q : ℕ) (g : ℕ → Report A) (f : A → Report B) (rest : Report B) → trees n p q ≡ gives N
+    → (leb N most_estimated ≡ true → g N then f ≡ rest) → scaled n p q then g then f ≡ unless (leb N most_estimated) 15 rest
+scaled_then {N} n p q g f rest answered goes_on =
+    ap (λ (r : Report ℕ). (r then λ N. unless (leb N most_estimated) 15 (gives N)) then g then f) answered ∙ by_test (leb N most_estimated) goes_on
+  where
+    by_test : (test : Bool) → (test ≡ true → g N then f ≡ rest) → unless test 15 (gives N) then g then f ≡ unless test 15 rest
+    by_test true h = h refl
+    by_test false h = refl
+
+-- ---- every command
+
+-- what becomes of the row that the open line leaves: where fewer than 32 lines are closed, there is a place for it
+abbrev kept : Survey → Row → Report Survey
+kept s r = when (leb most_lines s.closed) 11 (gives (with_row s r))
+
+row_kept : {r : Row} {known : Report Row} (s : Survey) → s.closed < most_lines → known ≡ gives r → closing_row s ≡ r
+    → known then kept s ≡ gives (with_row s (closing_row s))
+row_kept s room known is = rw (known, lt-leb most_lines s.closed room, is)
+
+kept_none : (s : Survey) → Valid s → s.active ≡ true → eqb s.line.tally.n 0 ≡ true → leb (small_number_of s.line) most_estimated ≡ true
+    → row_gaining s.line 0 0 (small_number_of s.line) (between 0 0) (small_number_of s.line) then kept s ≡ gives (with_row s (closing_row s))
+kept_none s v is_open none few = row_kept s (v.room is_open) (gained s v is_open 0 0 _ (between 0 0) few) (row_by s (measured_by s none) ∙ rw (zero-add, zero-mul))
+
+kept_some : (s : Survey) → Valid s → s.active ≡ true → eqb s.line.tally.n 0 ≡ false → leb (small_number_of s.line) most_estimated ≡ true
+    → row_gaining s.line (T_of s.line) (d_of s.line) (N_of s.line + small_number_of s.line) (row_of (N_of s.line) (tree_of (tree_at s))) (small_number_of s.line) then kept s
+    ≡ gives (with_row s (closing_row s))
+kept_some s v is_open some few = row_kept s (v.room is_open) (gained s v is_open _ _ _ _ few) (row_by s (measured_by s some))
+
+-- so a line without measured trees closes as the text says
+small_closes : (s : Survey) → Valid s → s.active ≡ true → eqb s.line.tally.n 0 ≡ true → small_row s.line then kept s ≡ close_small s
+small_closes s v is_open none = scaled_then _ _ _ _ (kept s) _ (count_answered s v is_open) (kept_none s v is_open none)
+
+-- and one with some
+some_closes : (s : Survey) → Valid s → s.active ≡ true → eqb s.line.tally.n 0 ≡ false → eqb s.line.heights.number 0 ≡ false
+    → some_row s.factors s.line then kept s ≡ when (eqb (f_of s) 0) 14 (unless (leb (N_of s.line) most_estimated) 15 (close_small s))
+unfolding worked
+some_closes s v is_open some heights =
+    answered_then (kept s) _ _ (mean_known s v is_open some)
+    (when_then (kept s) _ 14 _ _ (λ given.
+    scaled_then _ _ _ _ (kept s) _ (n_answered s v is_open) (λ few.
+    scaled_then _ _ _ _ (kept s) _ (count_answered s v is_open) (λ small.
+    answered_then (kept s) _ _ (tariff_known s v is_open some heights)
+    (answered_then (kept s) _ _ (row_known s v is_open some heights given few) (kept_some s v is_open some small))))))
+
+-- what the checks besides say is so of a valid survey, and the other checks are the same
+ruleset text = (
+  when_same,
+  unless_same,
+  when_then,
+  unless_then,
+  cond_then,
+  then_then,
+  passed_then,
+  answered_then,
+  squares_within,
+  tariffs_within,
+  small_closes,
+  some_closes,
+)
+
+pub as_written_lem : (c : Command) (s : Survey) → Valid s → apply c s ≡ as_written c s
+unfolding apply_measured add_trees measure apply_height add_height give_height apply_close line_row close
+as_written_lem (Command.Species id species) s v = refl
+as_written_lem (Command.Factor cm factor) s v = refl
+as_written_lem (Command.Open stratum species p q) s v = refl
+as_written_lem (Command.Measured class count) s v = search text depth 14
+as_written_lem (Command.Height cm tenths) s v = search text depth 14
+as_written_lem Command.Close s v = search text depth 14
+as_written_lem Command.End s v = refl
+as_written_lem (Command.Small carbon count) s v = refl
