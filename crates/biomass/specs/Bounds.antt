@@ -25,9 +25,16 @@ pub record Rising (start rise : ℤ) (d : ℕ) : Type 0 where
 abbrev pub greatest_volume : ℕ
 greatest_volume = 1228217028537058651
 
+-- the stem's ends from those of its volume, l and h, as naturals
+abbrev pub stem_low : ℕ → ℕ → ℕ → ℕ
+stem_low l f s = l / 10 ^ 8 * f * s / 10000
+
+abbrev pub stem_high : ℕ → ℕ → ℕ → ℕ
+stem_high h f s = (h / 10 ^ 8 + 1) * f * s / 10000 + 1
+
 -- the high of the greatest volume, at the greatest factor and gravity
 abbrev pub greatest_stem : ℕ
-greatest_stem = (greatest_volume / 10 ^ 8 + 1) * 200 * 100 / 10000 + 1
+greatest_stem = stem_high greatest_volume 200 100
 
 -- the mg at which the highest line of the crown ends, and of the root. A high is 1 above its low on the line, and so 1 above that at most
 abbrev pub crown_top : ℕ

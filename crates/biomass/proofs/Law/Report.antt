@@ -1,10 +1,21 @@
--- Laws of the checks that a report is made of: what a range test that passed says, and which report follows from another one.
-use Rattle.std.specs.Prelude.{ℕ, ◌≤◌, ◌≡◌, refl, Bool, true, false, cond, leb}
+-- Laws of the checks that a report is made of: what a test that passed or failed says, and which report follows.
+use Rattle.std.specs.Prelude.{ℕ, ◌≤◌, ◌≡◌, refl, Bool, true, false, not, cond, leb}
 use Rattle.std.proofs.Common.{◌∙◌, sym, ap, leb-true, le-leb}
-use Rattle.std.proofs.lemmas.Bool.{false≢true}
+use Rattle.std.proofs.lemmas.Bool.{false≢true, not-true, not-false}
 use Rattle.biomass.specs.Bounds.{Inside}
 use Rattle.biomass.specs.Whole.{inside}
-use Rattle.biomass.specs.Report.{Report, refused, gives, ◌then◌}
+use Rattle.biomass.specs.Report.{Report, refused, gives, unless, when, ◌then◌, refusal_number, count, biomass}
+use Rattle.biomass.specs.declared.units.BiomassRange.{BiomassRange}
+use Rattle.biomass.specs.declared.report.Refusal.{Refusal}
+use Rattle.biomass.specs.declared.report.Count.{Count}
+use Rattle.biomass.specs.declared.report.Biomass.{Biomass}
+
+-- The code refuses where `!answer` and goes on where not; `answer` is the routine's own test, which its promise makes the definition's
+pub refuses : {A : Type 0} {answer : Bool} {n : ℕ} (test : Bool) (next : Report A) → answer ≡ test → not answer ≡ true → refused n ≡ unless test n next
+refuses {answer} {n} test next e t = ap (λ (b : Bool). unless b n next) (sym (not-true answer t) ∙ e)
+
+pub goes_on : {A : Type 0} {answer : Bool} {x : Report A} (test : Bool) (n : ℕ) (next : Report A) → answer ≡ test → not answer ≡ false → x ≡ next → x ≡ unless test n next
+goes_on {answer} test n next e t r = r ∙ ap (λ (b : Bool). unless b n next) (sym (not-false answer t) ∙ e)
 
 -- a test of two parts
 pub both_true : (s t : Bool) → cond s t false ≡ true → (s ≡ true) × (t ≡ true)
@@ -16,6 +27,14 @@ inside_true lo x hi e =
     let b = both_true (leb lo x) (leb x hi) e in
     record { least = leb-true lo x b.0; most = leb-true x hi b.1 }
 
+-- what the code knows past a test
+pub held : {answer test : Bool} → answer ≡ test → not answer ≡ false → test ≡ true
+held {answer} e t = sym e ∙ not-false answer t
+
+-- and past a range test
+pub in_range : {answer : Bool} {lo x hi : ℕ} → answer ≡ inside lo x hi → not answer ≡ false → Inside lo x hi
+in_range {lo} {x} {hi} e t = inside_true lo x hi (held e t)
+
 pub true_inside : (lo x hi : ℕ) → lo ≤ x → x ≤ hi → inside lo x hi ≡ true
 true_inside lo x hi l m = ap (λ (s : Bool). cond s (leb x hi) false) (le-leb lo x l) ∙ le-leb x hi m
 
@@ -25,3 +44,49 @@ stops first f e = ap (λ (r : Report _). r then f) (sym e)
 
 pub follows : {A B : Type 0} {x : Report B} {a : A} (first : Report A) (f : A → Report B) → first ≡ gives a → x ≡ f a → x ≡ (first then f)
 follows first f e r = r ∙ ap (λ (q : Report _). q then f) (sym e)
+
+-- ---- the checks of the code, one law for each way of a test
+
+module _ {A : Type 0} {test : Bool} (next : Report A) where
+  pub stop_unless : {n : ℕ} → test ≡ false → refused n ≡ unless test n next
+  stop_unless {n} e = ap (λ (b : Bool). unless b n next) (sym e)
+
+  pub past_unless : {x : Report A} (n : ℕ) → test ≡ true → x ≡ next → x ≡ unless test n next
+  past_unless n e r = r ∙ ap (λ (b : Bool). unless b n next) (sym e)
+
+  pub stop_when : {n : ℕ} → test ≡ true → refused n ≡ when test n next
+  stop_when {n} e = ap (λ (b : Bool). when b n next) (sym e)
+
+  pub past_when : {x : Report A} (n : ℕ) → test ≡ false → x ≡ next → x ≡ when test n next
+  past_when n e r = r ∙ ap (λ (b : Bool). when b n next) (sym e)
+
+-- what is made of the figure that a routine answers; and of what it declines, whose number is handed on
+module _ {A : Type 0} {first : Report ℕ} {answer : Count} (f : ℕ → Report A) (promise : count answer ≡ first) where
+  pub follows_count : {a : ℕ} {x : Report A} → answer ≡ Count.Is a → x ≡ f a → x ≡ (first then f)
+  follows_count is = follows first f (sym promise ∙ ap count is)
+
+  pub stops_count : {why : Refusal} {n : ℕ} → answer ≡ Count.Refused why → n ≡ refusal_number why → refused n ≡ (first then f)
+  stops_count is number = ap refused number ∙ stops first f (sym promise ∙ ap count is)
+
+module _ {A : Type 0} {first : Report BiomassRange} {answer : Biomass} (f : BiomassRange → Report A) (promise : biomass answer ≡ first) where
+  pub follows_biomass : {m : BiomassRange} {x : Report A} → answer ≡ Biomass.Is m → x ≡ f m → x ≡ (first then f)
+  follows_biomass is = follows first f (sym promise ∙ ap biomass is)
+
+  pub stops_biomass : {why : Refusal} {n : ℕ} → answer ≡ Biomass.Refused why → n ≡ refusal_number why → refused n ≡ (first then f)
+  stops_biomass is number = ap refused number ∙ stops first f (sym promise ∙ ap biomass is)
+
+-- either way of a test
+module _ {A : Type 0} {test : Bool} {x : Report A} (y z : Report A) where
+  pub if_so : test ≡ true → x ≡ y → x ≡ cond test y z
+  if_so e r = r ∙ ap (λ (b : Bool). cond b y z) (sym e)
+
+  pub if_not : test ≡ false → x ≡ z → x ≡ cond test y z
+  if_not e r = r ∙ ap (λ (b : Bool). cond b y z) (sym e)
+
+-- What the code knows past a range test. The test that was passed is the first premise: what was told of that one alone is then looked for, and soon found
+pub ranges : {answer : Bool} {lo x hi : ℕ} → not answer ≡ false → answer ≡ inside lo x hi → Inside lo x hi
+ranges t e = in_range e t
+
+-- a figure that a routine worked out, as its promise says
+pub given : {A : Type 0} {a b : A} → a ≡ b → gives a ≡ gives b
+given = ap gives

@@ -120,6 +120,13 @@ pos_minus {n} {b} h = same (sub (parts (pos b)) (parts (pos n))) (parts (pos (b 
 pub pos_minus_more : {a b : ℕ} → a < b → pos a -ℤ pos b ≡ negsuc (b - suc a)
 pos_minus_more {a} {b} h = same (sub (parts (pos a)) (parts (pos b))) (parts (negsuc (b - suc a))) (omega arith)
 
+-- −1 − z swaps n and −(n + 1)
+pub turn_natural : (n : ℕ) → negsuc 0 -ℤ pos n ≡ negsuc n
+turn_natural n = same (sub (parts (negsuc 0)) (parts (pos n))) (parts (negsuc n)) (omega arith)
+
+pub turn_negative : (n : ℕ) → negsuc 0 -ℤ negsuc n ≡ pos n
+turn_negative n = same (sub (parts (negsuc 0)) (parts (negsuc n))) (parts (pos n)) (omega arith)
+
 -- ---- sizes
 
 size : {z : ℤ} {p q : ℕ} → Diff z p q → nat_abs z ≤ p + q

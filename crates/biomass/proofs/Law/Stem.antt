@@ -4,7 +4,7 @@ use Rattle.std.specs.Prelude.{ℕ, ◌+◌, ◌-◌, ◌*◌, ◌/◌, ◌^◌, 
 use Rattle.std.proofs.Math.Decide.{dec_le}
 use Rattle.std.proofs.Common.{le_refl, mul-le-mul, arith}
 use Rattle.std.proofs.Math.Path.{ap}
-use Rattle.biomass.specs.Bounds.{InRange, greatest_stem, greatest_volume}
+use Rattle.biomass.specs.Bounds.{InRange, greatest_stem, greatest_volume, stem_high, stem_low}
 use Rattle.powers.specs.Diameter.{least_d, greatest_d}
 use Rattle.biomass.specs.Stem.{area_scale, G, stem_ends}
 use Rattle.biomass.proofs.Law.Ends.{Bounded}
@@ -83,12 +83,6 @@ module _ (T d : ℕ) (r : InRange T d) where
   enclosing = elim (dec_le 118288000 (G d)) [ yes k ↦ enclosing_over k | no k ↦ enclosing_under (omega arith) ]
 
 -- ---- the stem's ends from those of its volume
-
-abbrev pub stem_low : ℕ → ℕ → ℕ → ℕ
-stem_low l f s = l / 10 ^ 8 * f * s / 10000
-
-abbrev pub stem_high : ℕ → ℕ → ℕ → ℕ
-stem_high h f s = (h / 10 ^ 8 + 1) * f * s / 10000 + 1
 
 pub stem_ends_lem : {T d l h : ℕ} → Volumes T d l h → (f s : ℕ)
     → stem_ends T d f s ≡ record { low = pos (stem_low l f s); high = pos (stem_high h f s) }

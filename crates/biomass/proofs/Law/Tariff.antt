@@ -1,9 +1,9 @@
 -- Laws of the tariff: which report the tests of a single tariff's range make, and that a tariff which is given is 1 to 50, a line's too, since it is
 -- the mean of numbers from 1 to 50.
 use Rattle.std.specs.Prelude.{ℕ, ◌*◌, ◌/◌, ◌≡◌, refl, true, false, T, ℤ, pos, negsuc, nat_abs}
-use Rattle.std.proofs.Common.{le_of_suc-le-suc, le-div_iff_mul-le, div-lt_iff_lt-mul, one-mul, subst, arith, ltb-true, ltb-false, le-leb}
-use Rattle.std.proofs.lemmas.Bool.{lt-leb}
-use Rattle.std.specs.Int.Signed.{lt_z}
+use Rattle.std.proofs.Common.{le_of_suc-le-suc, le-div_iff_mul-le, div-lt_iff_lt-mul, one-mul, subst, arith, sym, ltb-true, ltb-false, le-leb}
+use Rattle.std.proofs.lemmas.Bool.{false≢true, lt-leb}
+use Rattle.std.specs.Int.Signed.{lt_z, non_neg}
 use Rattle.biomass.specs.Whole.{◌div◌}
 use Rattle.biomass.specs.Report.{refused, gives}
 use Rattle.biomass.specs.Limits.{most_heights}
@@ -23,6 +23,11 @@ above_fifty (negsuc t) h = refl
 pub one_to_fifty : (t : ℤ) → lt_z t (pos 1) ≡ false → lt_z (pos 50) t ≡ false → from_one_to_fifty t ≡ gives (nat_abs t)
 one_to_fifty (pos t) h k = simp (le-leb 1 t (ltb-false t 1 h), le-leb t 50 (ltb-false 50 t k))
 one_to_fifty (negsuc t) h k = cc
+
+-- a tariff that is not below 1 is not negative
+pub not_below_one : (t : ℤ) → lt_z t (pos 1) ≡ false → T (non_neg t)
+not_below_one (pos t) h = tt
+not_below_one (negsuc t) h = absurd (false≢true (sym h))
 
 -- ---- what the layer above is given
 

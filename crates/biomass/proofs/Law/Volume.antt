@@ -92,7 +92,7 @@ module _ (T d : ℕ) (r : InRange T d) where
     most = omega (arith, rise_fits);
   }
 
-  pub volumes_under : G d < 118288000 → Volumes T d (low_under T d) (high_under T d)
+  pub volumes_under : G d < 118288000 → Volumes T d (base T - (slope T + 1) * deficit d) (base T - slope T * (deficit d - 1))
   unfolding VL VH
   volumes_under k =
       let z_is : z d ≡ negsuc (deficit d - 1) = pos_minus_more k ∙ ap negsuc (omega arith) in

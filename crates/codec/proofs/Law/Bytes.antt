@@ -5,6 +5,7 @@ use Rattle.std.proofs.Math.Nat.{one-le-pow, div-eq_of_lt, div-div-eq-div-mul, mu
 use Rattle.std.proofs.Common.{mod-lt, mod-eq_of_lt, div-one, div-add-mod', mul-le-mul_right, add-mul, pow-suc, add-zero, le_of_suc-le-suc, add-one, arith, ◌∙◌, sym, ap, subst, append_assoc, append-nil, length-append, take-append-drop, drop-cons, length-take-le, lt-ltb, le-ltb, ltb-true, ltb-false}
 use Rattle.std.proofs.Math.ListN.{get_or-eq_default}
 use Rattle.std.proofs.Math.Seq.{append_snoc, get_or-append_seam}
+use Rattle.std.specs.Int.Signed.{mag}
 use Rattle.codec.specs.Bytes.{byte, AllBytes, number_at, bytes, signed, unsigned}
 use Rattle.codec.specs.Command.{FitsFour}
 
@@ -136,6 +137,11 @@ bytes_of_number (suc k) s i all =
     before first rest
 
 -- ---- "4 each, signed"
+
+-- every signed number of 32 bits fits
+pub mag_fits : (z : ℤ) → mag z < 2 ^ 31 → FitsFour z
+mag_fits (pos n) h = h
+mag_fits (negsuc n) h = h
 
 pub unsigned_fits : (z : ℤ) → FitsFour z → unsigned z < 4294967296
 unsigned_fits (pos n) h = omega arith

@@ -116,6 +116,9 @@ pub stored_stores : {d : List ℕ} {q : ℕ} (c : List ℕ) (p : ℕ) (m : List 
 unfolding after_store
 stored_stores c p m fits s = (s.0 ∙ sym (store_fits c p m fits), s.1 ∙ rw le-leb)
 
+pub stores_keep : {d : List ℕ} {q : ℕ} (c : List ℕ) (p : ℕ) (m : List ℕ) → Stores c p m d q → length d ≡ length c
+stores_keep c p m s = ap length s.0 ∙ store_keeps_length c p m
+
 -- m right after l
 pub next_stored : {c d : List ℕ} {p q : ℕ} (b : List ℕ) (at : ℕ) (l m : List ℕ) → at + length l + length m ≤ length b → Stored b at l c p → Stores c p m d q →
     Stored b at (l ++ m) d q
