@@ -49,7 +49,8 @@ pub fn too_long(rt: &(impl Print + AllocGlobal), n: usize) -> bool
 
 // Text on its way to a writer, and whether all of it is out so far or waits in the buffer. Past a write that fails nothing
 // more is written, and the output stays as it is: what comes out is always a beginning of the text, and no number is cut in
-// its middle and gone on with.
+// its middle and gone on with. `finish` ends it: where an output is let go without that, the buffer tries once more to
+// write what waits.
 #[derive(Drop)]
 pub struct Output<W: Write + Drop> {
     pub good: bool,

@@ -14,7 +14,7 @@ use rules::change::{Change, Seen, any_line, decide, names};
 
 // How far a book is played: the survey, the place after the last command, and what became of that command. Where a book
 // is stopped, the place is that of the refused command.
-#[derive(Drop)]
+#[derive(Clone, Copy)]
 pub(crate) struct Played {
     pub(crate) survey: Survey,
     pub(crate) at: usize,

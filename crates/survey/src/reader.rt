@@ -7,7 +7,7 @@ use codec::reading::{Reading, place_after, read};
 use codec::refusal::Refusal;
 
 // A book, and the place of the command that is read next.
-#[derive(Drop)]
+#[derive(Clone, Copy)]
 pub struct BookReader<'a> {
     pub book: &'a [u8],
     pub at: usize,

@@ -10,7 +10,7 @@ use line::line::Line;
 use line::row::Row;
 use rules::change::{Change, MOST_LINES, Seen, any_line, decide, names};
 
-#[derive(Drop)]
+#[derive(Clone, Copy)]
 pub struct Survey {
     // What each species was declared with, by its id; gravity 0: not declared.
     pub species: [Species; 16],
@@ -33,7 +33,7 @@ pub enum Outcome {
 }
 
 // The survey after a command, and what became of the command. Where it was refused, the survey is the one given.
-#[derive(Drop)]
+#[derive(Clone, Copy)]
 pub struct Applied {
     pub survey: Survey,
     pub outcome: Outcome,

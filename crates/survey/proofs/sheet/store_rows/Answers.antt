@@ -1,5 +1,5 @@
 -- `survey::sheet::store_rows` meets its contract: a row has room right after those that are stored, so that it stands there.
-use Rattle.std.proofs.Common.{rules, arith}
+use Rattle.std.proofs.Common.{rules, arith, ◌∙◌}
 use Rattle.codec.specs.Bytes.{stored_at}
 use Rattle.codec.proofs.Law.Storing.{store_fits}
 use Rattle.line.proofs.Law.Row.{length_row}
@@ -12,4 +12,11 @@ unfolding stored_at sheet_bytes
 loop-i-init c = search rules
 
 pub loop-i-preserved : goal.loop-i-preserved
-loop-i-preserved c = grind (arith, store_fits, length_row, stored_one_more)
+loop-i-preserved c =
+    let s = c.loop-i.invariant in
+    record {
+      within = omega arith;
+      stored =
+          let one_more = stored_one_more c.args.sheet.now c.args.rows c.loop-i.i _ (omega arith) in
+          c.store_row.ensures ∙ store_fits c.loop-i.sheet _ _ (omega (arith, length_row)) ∙ rw s.stored one_more;
+    }
