@@ -13,6 +13,7 @@ import sys
 
 PIPE = 4096
 ROOMS = range(0, 200)
+# How often it is read from meanwhile: whether a write fails then is chance, and in which turn.
 TIMES = 20
 
 

@@ -10,13 +10,6 @@ use Rattle.biomass.specs.declared.report.Refusal.{Refusal}
 use Rattle.biomass.specs.declared.report.Count.{Count}
 use Rattle.biomass.specs.declared.report.Biomass.{Biomass}
 
--- The code refuses where `!answer` and goes on where not; `answer` is the routine's own test, which its promise makes the definition's
-pub refuses : {A : Type 0} {answer : Bool} {n : ℕ} (test : Bool) (next : Report A) → answer ≡ test → not answer ≡ true → refused n ≡ unless test n next
-refuses {answer} {n} test next e t = ap (λ (b : Bool). unless b n next) (sym (not-true answer t) ∙ e)
-
-pub goes_on : {A : Type 0} {answer : Bool} {x : Report A} (test : Bool) (n : ℕ) (next : Report A) → answer ≡ test → not answer ≡ false → x ≡ next → x ≡ unless test n next
-goes_on {answer} test n next e t r = r ∙ ap (λ (b : Bool). unless b n next) (sym (not-false answer t) ∙ e)
-
 -- a test of two parts
 pub both_true : (s t : Bool) → cond s t false ≡ true → (s ≡ true) × (t ≡ true)
 both_true true t e = (refl, e)
@@ -26,14 +19,6 @@ pub inside_true : (lo x hi : ℕ) → inside lo x hi ≡ true → Inside lo x hi
 inside_true lo x hi e =
     let b = both_true (leb lo x) (leb x hi) e in
     record { least = leb-true lo x b.0; most = leb-true x hi b.1 }
-
--- what the code knows past a test
-pub held : {answer test : Bool} → answer ≡ test → not answer ≡ false → test ≡ true
-held {answer} e t = sym e ∙ not-false answer t
-
--- and past a range test
-pub in_range : {answer : Bool} {lo x hi : ℕ} → answer ≡ inside lo x hi → not answer ≡ false → Inside lo x hi
-in_range {lo} {x} {hi} e t = inside_true lo x hi (held e t)
 
 pub true_inside : (lo x hi : ℕ) → lo ≤ x → x ≤ hi → inside lo x hi ≡ true
 true_inside lo x hi l m = ap (λ (s : Bool). cond s (leb x hi) false) (le-leb lo x l) ∙ le-leb x hi m
@@ -45,8 +30,17 @@ stops first f e = ap (λ (r : Report _). r then f) (sym e)
 pub follows : {A B : Type 0} {x : Report B} {a : A} (first : Report A) (f : A → Report B) → first ≡ gives a → x ≡ f a → x ≡ (first then f)
 follows first f e r = r ∙ ap (λ (q : Report _). q then f) (sym e)
 
--- ---- the checks of the code, one law for each way of a test
+-- ---- The tests of the code, one law for each way that a test goes. The checker takes these steps by itself: no proof cites them now (decision 79).
 
+-- either way of a test
+module _ {A : Type 0} {test : Bool} {x : Report A} (y z : Report A) where
+  pub if_so : test ≡ true → x ≡ y → x ≡ cond test y z
+  if_so e r = r ∙ ap (λ (b : Bool). cond b y z) (sym e)
+
+  pub if_not : test ≡ false → x ≡ z → x ≡ cond test y z
+  if_not e r = r ∙ ap (λ (b : Bool). cond b y z) (sym e)
+
+-- a check that stops, and one that is passed
 module _ {A : Type 0} {test : Bool} (next : Report A) where
   pub stop_unless : {n : ℕ} → test ≡ false → refused n ≡ unless test n next
   stop_unless {n} e = ap (λ (b : Bool). unless b n next) (sym e)
@@ -59,6 +53,23 @@ module _ {A : Type 0} {test : Bool} (next : Report A) where
 
   pub past_when : {x : Report A} (n : ℕ) → test ≡ false → x ≡ next → x ≡ when test n next
   past_when n e r = r ∙ ap (λ (b : Bool). when b n next) (sym e)
+
+-- `answer` is the routine's own test, which its promise makes the definition's: the code refuses where `!answer`, and goes on where not
+pub held : {answer test : Bool} → answer ≡ test → not answer ≡ false → test ≡ true
+held {answer} e t = sym e ∙ not-false answer t
+
+pub refuses : {A : Type 0} {answer : Bool} {n : ℕ} (test : Bool) (next : Report A) → answer ≡ test → not answer ≡ true → refused n ≡ unless test n next
+refuses {answer} test next e t = stop_unless next (sym e ∙ not-true answer t)
+
+pub goes_on : {A : Type 0} {answer : Bool} {x : Report A} (test : Bool) (n : ℕ) (next : Report A) → answer ≡ test → not answer ≡ false → x ≡ next → x ≡ unless test n next
+goes_on test n next e t r = past_unless next n (held e t) r
+
+-- what it knows past a range test; and the same with the test that was passed first
+pub in_range : {answer : Bool} {lo x hi : ℕ} → answer ≡ inside lo x hi → not answer ≡ false → Inside lo x hi
+in_range {lo} {x} {hi} e t = inside_true lo x hi (held e t)
+
+pub ranges : {answer : Bool} {lo x hi : ℕ} → not answer ≡ false → answer ≡ inside lo x hi → Inside lo x hi
+ranges t e = in_range e t
 
 -- what is made of the figure that a routine answers; and of what it declines, whose number is handed on
 module _ {A : Type 0} {first : Report ℕ} {answer : Count} (f : ℕ → Report A) (promise : count answer ≡ first) where
@@ -74,18 +85,6 @@ module _ {A : Type 0} {first : Report BiomassRange} {answer : Biomass} (f : Biom
 
   pub stops_biomass : {why : Refusal} {n : ℕ} → answer ≡ Biomass.Refused why → n ≡ refusal_number why → refused n ≡ (first then f)
   stops_biomass is number = ap refused number ∙ stops first f (sym promise ∙ ap biomass is)
-
--- either way of a test
-module _ {A : Type 0} {test : Bool} {x : Report A} (y z : Report A) where
-  pub if_so : test ≡ true → x ≡ y → x ≡ cond test y z
-  if_so e r = r ∙ ap (λ (b : Bool). cond b y z) (sym e)
-
-  pub if_not : test ≡ false → x ≡ z → x ≡ cond test y z
-  if_not e r = r ∙ ap (λ (b : Bool). cond b y z) (sym e)
-
--- What the code knows past a range test. The test that was passed is the first premise: what was told of that one alone is then looked for, and soon found
-pub ranges : {answer : Bool} {lo x hi : ℕ} → not answer ≡ false → answer ≡ inside lo x hi → Inside lo x hi
-ranges t e = in_range e t
 
 -- a figure that a routine worked out, as its promise says
 pub given : {A : Type 0} {a b : A} → a ≡ b → gives a ≡ gives b
