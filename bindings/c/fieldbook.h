@@ -24,8 +24,8 @@ extern "C" {
 /* The version of this header, the Rust crate and the book's format together; CHANGELOG.md has what raises it. */
 #define FIELDBOOK_VERSION_MAJOR 1
 #define FIELDBOOK_VERSION_MINOR 2
-#define FIELDBOOK_VERSION_PATCH 0
-#define FIELDBOOK_VERSION "1.2.0"
+#define FIELDBOOK_VERSION_PATCH 1
+#define FIELDBOOK_VERSION "1.2.1"
 
 /* The numbers of the refusals. */
 enum {

@@ -2,4 +2,4 @@
 pub mod Law
 -- Laws that the proofs of several routines share.
 pub mod Small
-pub mod Coefficients
+pub mod Fits

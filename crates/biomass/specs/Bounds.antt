@@ -1,6 +1,6 @@
 -- What the routines of this crate and of those above ask of each other, and how great a figure can be. No public routine asks for any of it, and no promise
 -- about a figure or a book is stated by it: what is so of these bounds is proved (Law.Stem, Law.Crown, Law.Root, Law.Tree, Law.SmallTrees).
-use Rattle.std.specs.Prelude.{ℕ, ◌+◌, ◌*◌, ◌/◌, ◌^◌, ◌≤◌, ◌≡◌, ℤ, pos, nat_abs, ◌+ℤ◌, ◌*ℤ◌}
+use Rattle.std.specs.Prelude.{ℕ, ◌+◌, ◌*◌, ◌/◌, ◌^◌, ◌≤◌, ◌<◌, ◌≡◌, List, get_or, ℤ, pos, nat_abs, ◌+ℤ◌, ◌*ℤ◌}
 use Rattle.powers.specs.Diameter.{units_to_cm, least_d, greatest_d}
 use Rattle.biomass.specs.Limits.{most_estimated, greatest_carbon}
 
@@ -20,6 +20,12 @@ pub record Rising (start rise : ℤ) (d : ℕ) : Type 0 where
   pub start_small : nat_abs start ≤ 10 ^ 9
   pub rise_small : nat_abs rise ≤ 10 ^ 9
   pub d_small : d ≤ greatest_d
+
+-- A row of a table of groups, whose curve ends at `limit`: its coefficient is 0 or above, and small, and past the curve its line has risen
+pub record SoundRow (limit : ℕ) (row : List ℤ) : Type 0 where
+  pub is_whole : get_or row 0 (pos 0) ≡ pos (nat_abs (get_or row 0 (pos 0)))
+  pub small : nat_abs (get_or row 0 (pos 0)) < 2 ^ 20
+  pub rising : (d : ℕ) → limit < d → d ≤ greatest_d → Rising (get_or row 1 (pos 0)) (get_or row 2 (pos 0)) d
 
 -- the greatest VH
 abbrev pub greatest_volume : ℕ

@@ -1,12 +1,10 @@
 -- Step 5, the crown. Its w is powers/specs/Crown.antt.
-use Rattle.std.specs.Prelude.{ℕ, ◌^◌, cond, List, [], ◌∷◌, leb, ℤ, pos, neg_ℤ}
+use Rattle.std.specs.Prelude.{ℕ, ◌^◌, List, [], ◌∷◌, ℤ, pos, neg_ℤ}
 use Rattle.powers.specs.Crown.{w}
-use Rattle.biomass.specs.Whole.{inside}
-use Rattle.biomass.specs.Report.{Report, gives, unless}
+use Rattle.biomass.specs.Report.{Report}
 use Rattle.powers.specs.Diameter.{crown_limit}
-use Rattle.biomass.specs.Mean.{d_in_range}
-use Rattle.biomass.specs.Ends.{Ends, range, entry, curve, straight}
-use Rattle.biomass.specs.declared.units.BiomassRange.{BiomassRange}
+use Rattle.biomass.specs.Ends.{Ends, entry, part_ends, part}
+use Rattle.biomass.specs.Units.{BiomassRange}
 
 -- "Crown groups 0 to 7, each a row of k, a and b, in Table 5.2.3's order (larches first, oak last). k is Table 5.2.2 in 10^-10 t; a and b
 -- are Table 5.2.3 in mg."
@@ -41,10 +39,7 @@ b g = entry crown_table g 2
 -- "For d ≤ 500, .. low = k·w div 10^6, high = k·(w+1) div 10^6 + 1. .. For d > 500, low = (10a + b·d) div 10, high = low + 1."
 -- (Every group, larches too: docs/DECISIONS.md, decision 1.)
 unfoldable pub crown_ends : ℕ → ℕ → Ends
-crown_ends g d = cond (leb d crown_limit) (curve (k g) (w d) (10 ^ 6)) (straight (a g) (b g) d)
+crown_ends g d = part_ends crown_table crown_limit w (10 ^ 6) g d
 
 unfoldable pub crown : ℕ → ℕ → Report BiomassRange
-crown g d =
-    unless (inside 0 g 7) 6
-    (unless (d_in_range d) 6
-    (gives (range (crown_ends g d))))
+crown g d = part 7 crown_ends g d

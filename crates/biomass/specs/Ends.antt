@@ -1,8 +1,10 @@
 -- A part's low and high. Steps 4 to 6 subtract on the way, so they are worked in ℤ, and the ends come out there.
-use Rattle.std.specs.Prelude.{ℕ, ◌+◌, List, [], get_or, ℤ, pos, ◌+ℤ◌, ◌*ℤ◌, nat_abs}
-use Rattle.biomass.specs.Whole.{◌div◌}
+use Rattle.std.specs.Prelude.{ℕ, ◌+◌, cond, leb, List, [], get_or, ℤ, pos, ◌+ℤ◌, ◌*ℤ◌, nat_abs}
+use Rattle.biomass.specs.Whole.{◌div◌, inside}
+use Rattle.biomass.specs.Report.{Report, gives, unless}
+use Rattle.biomass.specs.Mean.{d_in_range}
 use Rattle.powers.specs.Diameter.{units_to_cm}
-use Rattle.biomass.specs.declared.units.BiomassRange.{BiomassRange}
+use Rattle.biomass.specs.Units.{BiomassRange}
 
 pub record Ends : Type 0 where
   pub low : ℤ
@@ -31,3 +33,16 @@ abbrev pub straight : ℤ → ℤ → ℕ → Ends
 straight a b d =
     let low = (pos units_to_cm *ℤ a +ℤ b *ℤ pos d) div units_to_cm in
     record { low = low; high = low +ℤ pos 1 }
+
+-- The ends of a part that is worked by groups, on its curve up to `limit` and on its straight line above: each group's row is a coefficient, and the
+-- line's a and b
+abbrev pub part_ends : List (List ℤ) → ℕ → (ℕ → ℕ) → ℕ → ℕ → ℕ → Ends
+part_ends table limit power m g d =
+    cond (leb d limit) (curve (entry table g 0) (power d) m) (straight (entry table g 1) (entry table g 2) d)
+
+-- and what is reported of it, where its groups are 0 to `last`
+abbrev pub part : ℕ → (ℕ → ℕ → Ends) → ℕ → ℕ → Report BiomassRange
+part last ends g d =
+    unless (inside 0 g last) 6
+    (unless (d_in_range d) 6
+    (gives (range (ends g d))))

@@ -32,10 +32,17 @@
 --     get_or l i z            what stands in l at i, counted from 0, and z past the end
 --     take k l, drop k l      the first k of l, and the rest
 --     set l i x, replicate n x        l with x at i; n times x
+--     list_any test l         whether the test holds of one of l
+-- Answers of a routine: Ok x, that it is x; Err why, that it declines, and why
+-- Options
+--     None, Some x            nothing, and x. is_some o: whether there is something
+--     unwrap_or o z           what there is, and z where there is nothing. option_map f o: f of it. option_to_list o: the list of it alone, or the empty list
 -- Reports (Report.antt): gives x, a figure; refused n, document 01's number of a refusal. A list of checks is read from the top
 --     unless test n r         the refusal n unless the test holds; where it holds, r
 --     when test n r           the refusal n when the test holds; where it fails, r
 --     r then λ x. q           q, with x the figure that r gives; where r is a refusal, that refusal
+--     report number answer    what an answer reports: a figure is given, and what it declines with has a number
+--     given o n               what there is, as a figure, and the refusal n where there is nothing
 -- Statements, which hold or do not
 --     x ≡ y, x ≤ y, x < y     x and y are the same; x is at most y; x is less than y. x ≤ℤ y: the same in ℤ
 --     f : ℕ → Type 0          f makes a statement of a number
@@ -51,6 +58,7 @@
 -- What a routine of src/ promises: `ensures { P }` is the statement P of what it answers, `result`. Of bytes b that are lent to it to be read, `b.now` are those; of
 -- bytes that it may change, `b.old` are those when it is called and `b.new` those when it answers. `requires { P }` is what a routine asks of its callers.
 pub mod Whole
+pub mod Units
 pub mod Report
 -- the limits of a line
 pub mod Limits

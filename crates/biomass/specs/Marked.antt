@@ -7,7 +7,7 @@ use Rattle.biomass.specs.Mean.{mean}
 use Rattle.biomass.specs.Ends.{between}
 use Rattle.biomass.specs.Crown.{crown}
 use Rattle.biomass.specs.Root.{root}
-use Rattle.biomass.specs.declared.units.BiomassRange.{BiomassRange}
+use Rattle.biomass.specs.Units.{BiomassRange}
 
 -- the last group of the roots, and the last of the crowns
 abbrev pub red_alder : ℕ

@@ -4,8 +4,7 @@ use Rattle.biomass.specs.Whole.{inside}
 use Rattle.biomass.specs.Report.{Report, gives, unless}
 use Rattle.biomass.specs.declared.units.Milligrams.{Milligrams}
 use Rattle.biomass.specs.declared.units.Grams.{Grams}
-use Rattle.biomass.specs.declared.units.BiomassRange.{BiomassRange}
-use Rattle.biomass.specs.declared.units.CarbonRange.{CarbonRange}
+use Rattle.biomass.specs.Units.{BiomassRange, CarbonRange}
 
 -- "Carbon is half of biomass, and 44/12 is kept as 11/3."
 abbrev pub dioxide : Milligrams → Grams

@@ -1,13 +1,8 @@
 -- What a routine reports: the figure, or the number of a refusal, and how each answer of the code is read so.
 -- "Where an answer is an enum, a definition gives this paper's number and values for each case of the enum."
-use Rattle.std.specs.Prelude.{ℕ, Bool, true, false}
-use Rattle.biomass.specs.declared.units.BiomassRange.{BiomassRange}
-use Rattle.biomass.specs.declared.units.CarbonRange.{CarbonRange}
+use Rattle.std.specs.Prelude.{ℕ, Bool, true, false, Option, None, Some, Result, Ok, Err}
 use Rattle.biomass.specs.declared.report.Refusal.{Refusal}
 use Rattle.biomass.specs.declared.report.Refusal.TheVariants.{Operand, Tariff}
-use Rattle.biomass.specs.declared.report.Count.{Count}
-use Rattle.biomass.specs.declared.report.Biomass.{Biomass}
-use Rattle.biomass.specs.declared.report.Carbon.{Carbon}
 
 pub data Report (A : Type 0) : Type 0 where
   refused : ℕ → Report A
@@ -34,14 +29,27 @@ abbrev pub refusal_number : Refusal → ℕ
 refusal_number Operand = 6
 refusal_number Tariff = 13
 
-abbrev pub count : Count → Report ℕ
-count (Count.Is n) = gives n
-count (Count.Refused r) = refused (refusal_number r)
+-- what a routine answers, read as a report: a figure gives it, and what it is declined with has a number
+abbrev pub report : {A E : Type 0} → (E → ℕ) → Result A E → Report A
+report number (Ok a) = gives a
+report number (Err why) = refused (number why)
 
-abbrev pub biomass : Biomass → Report BiomassRange
-biomass (Biomass.Is m) = gives m
-biomass (Biomass.Refused r) = refused (refusal_number r)
+-- what stands somewhere, or the refusal n where nothing does
+abbrev pub given : {A : Type 0} → Option A → ℕ → Report A
+given None n = refused n
+given (Some a) n = gives a
 
-abbrev pub carbon : Carbon → Report CarbonRange
-carbon (Carbon.Is m) = gives m
-carbon (Carbon.Refused r) = refused (refusal_number r)
+-- What becomes of a thing that a routine is lent to change: what is left of it, and the number of the refusal, 0 where there is none
+pub record After (A : Type 0) : Type 0 where
+  pub left : A
+  pub refusal : ℕ
+
+-- "The survey returned is the one given", where the change is refused; else the changed one is left
+abbrev pub leaves : {A : Type 0} → A → Report A → After A
+leaves a (refused n) = record { left = a; refusal = n }
+leaves a (gives b) = record { left = b; refusal = 0 }
+
+-- what the code answers, with what is then left
+abbrev pub after : {A E : Type 0} → (E → ℕ) → Result Unit E → A → After A
+after number (Ok done) a = record { left = a; refusal = 0 }
+after number (Err why) a = record { left = a; refusal = number why }

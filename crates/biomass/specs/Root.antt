@@ -1,12 +1,10 @@
 -- Step 6, the root.
-use Rattle.std.specs.Prelude.{ℕ, ◌*◌, ◌^◌, cond, List, [], ◌∷◌, leb, ℤ, pos, neg_ℤ}
-use Rattle.biomass.specs.Whole.{inside}
+use Rattle.std.specs.Prelude.{ℕ, ◌*◌, ◌^◌, List, [], ◌∷◌, ℤ, pos, neg_ℤ}
 use Rattle.powers.specs.Greatest.{whole_root}
-use Rattle.biomass.specs.Report.{Report, gives, unless}
+use Rattle.biomass.specs.Report.{Report}
 use Rattle.powers.specs.Diameter.{root_limit}
-use Rattle.biomass.specs.Mean.{d_in_range}
-use Rattle.biomass.specs.Ends.{Ends, range, entry, curve, straight}
-use Rattle.biomass.specs.declared.units.BiomassRange.{BiomassRange}
+use Rattle.biomass.specs.Ends.{Ends, entry, part_ends, part}
+use Rattle.biomass.specs.Units.{BiomassRange}
 
 -- "Root groups 0 to 5 in Table 5.2.4's order, b in mg. .. Above, as the crown above 500, by Table 5.2.5."
 -- Each row: b of Table 5.2.4, then a and b of Table 5.2.5, in mg
@@ -44,10 +42,7 @@ y d = whole_root 2 (10 ^ root_shift * d ^ 5)
 
 -- "For d ≤ 300, .. low = b·y div 10^5, high = b·(y+1) div 10^5 + 1."
 unfoldable pub root_ends : ℕ → ℕ → Ends
-root_ends g d = cond (leb d root_limit) (curve (curve_b g) (y d) (10 ^ 5)) (straight (line_a g) (line_b g) d)
+root_ends g d = part_ends root_table root_limit y (10 ^ 5) g d
 
 unfoldable pub root : ℕ → ℕ → Report BiomassRange
-root g d =
-    unless (inside 0 g 5) 6
-    (unless (d_in_range d) 6
-    (gives (range (root_ends g d))))
+root g d = part 5 root_ends g d

@@ -4,7 +4,7 @@ use Rattle.biomass.specs.Whole.{inside}
 use Rattle.biomass.specs.Report.{Report, gives, unless}
 use Rattle.biomass.specs.Limits.{most_estimated, greatest_carbon}
 use Rattle.biomass.specs.Ends.{between}
-use Rattle.biomass.specs.declared.units.BiomassRange.{BiomassRange}
+use Rattle.biomass.specs.Units.{BiomassRange}
 
 -- "The line's low gains number times twice the carbon div 100". The number is in hundredths, and carbon is half of biomass
 abbrev pub small_low : ℕ → ℕ → ℕ

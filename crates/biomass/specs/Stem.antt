@@ -5,7 +5,7 @@ use Rattle.biomass.specs.Whole.{◌div◌, inside, square}
 use Rattle.biomass.specs.Report.{Report, gives, unless}
 use Rattle.biomass.specs.Mean.{d_in_range}
 use Rattle.biomass.specs.Ends.{Ends, range}
-use Rattle.biomass.specs.declared.units.BiomassRange.{BiomassRange}
+use Rattle.biomass.specs.Units.{BiomassRange}
 
 -- "div 400000": pi is in units of 10^-8, d of 10^-3 m, and the area, a quarter of pi·d², of 10^-9 m²
 abbrev pub area_scale : ℕ

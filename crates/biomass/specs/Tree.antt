@@ -7,7 +7,7 @@ use Rattle.biomass.specs.Ends.{between, range}
 use Rattle.biomass.specs.Stem.{stem_ends, stem}
 use Rattle.biomass.specs.Crown.{crown_ends, crown}
 use Rattle.biomass.specs.Root.{root_ends, root}
-use Rattle.biomass.specs.declared.units.BiomassRange.{BiomassRange}
+use Rattle.biomass.specs.Units.{BiomassRange}
 use Rattle.biomass.specs.declared.tree.AverageTree.{AverageTree}
 
 -- all that steps 4 to 6 are worked from: T, d, f, the gravity, and the groups of crown and root

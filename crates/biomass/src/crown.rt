@@ -1,17 +1,17 @@
 // Step 5: the crown's biomass.
-ghost use Rattle.std.specs.Prelude.{◌≡◌, ◌≤◌, [], get_or};
-ghost use Rattle.biomass.specs.Report.{biomass};
-ghost use Rattle.powers.specs.Diameter.{least_d, greatest_d};
-ghost use Rattle.biomass.specs.Ends.{range};
-ghost use Rattle.biomass.specs.Crown.{crown, crown_table, crown_ends};
-ghost use Rattle.biomass.specs.Bounds.{Inside};
+ghost use Rattle.std.specs.Prelude.{◌≡◌};
+ghost use Rattle.std.proofs.Common.{rules};
+ghost use Rattle.powers.specs.Diameter.{crown_limit};
+ghost use Rattle.powers.specs.Crown.{w};
+ghost use Rattle.biomass.specs.Report.{report, refusal_number};
+ghost use Rattle.biomass.specs.Crown.{crown, crown_table};
 
-use super::ends::{on_curve, on_line};
-use super::report::{Biomass, Refusal};
+use super::operand::Diameter;
+use super::part::{Part, biomass_of};
+use super::report::Refusal;
 use super::units::BiomassRange;
-use super::whole::within;
 use powers::crown::crown_power;
-use powers::diameter::{CROWN_LIMIT, GREATEST_D, LEAST_D};
+use powers::diameter::CROWN_LIMIT;
 
 // Larches, Corsican pine, lodgepole pine, Scots pine, firs and spruces and cedars and hemlocks, Douglas fir, beech, oak.
 // Each row: k of Table 5.2.2 in 10^-10 t, a and b of Table 5.2.3 in mg.
@@ -26,37 +26,41 @@ const CROWN: [[i64; 3]; 8] = [
     [168_513, -411_550_464, 13_669_801],
 ];
 
-// A group's row of the table, copied out.
-fn crown_row(group: u64) -> [i64; 3]
-    requires { group ≤ 7 }
-    ensures { result ≡ get_or crown_table group [] }
-{
-    let at = group as usize;
-    CROWN[at]
-}
+struct Crowns;
 
-// The crown's biomass where the operands are in their ranges.
-fn crown_in_range(group: u64, d: u64) -> BiomassRange
-    requires { Inside 0 group 7 × Inside least_d d greatest_d }
-    ensures { result ≡ range (crown_ends group d) }
-{
-    let row = crown_row(group);
-    if d <= CROWN_LIMIT {
-        return on_curve(row[0] as u64, crown_power(d), 1_000_000);
+impl Part for Crowns {
+    ghost table = { crown_table };
+
+    const LAST: u64 = 7;
+
+    ghost LAST = { 7 };
+
+    const LIMIT: u64 = CROWN_LIMIT;
+
+    ghost LIMIT = { crown_limit };
+
+    ghost power = { w };
+
+    const UNIT: u64 = 1_000_000;
+
+    ghost UNIT = { 1000000 };
+
+    fn row(group: u64) -> [i64; 3] {
+        CROWN[group as usize]
     }
-    on_line(row[1], row[2], d)
+
+    #[tactic(auto, using(crate::proofs::Fits::crown_power_fits))]
+    fn power(d: Diameter) -> u64 {
+        crown_power(d.number)
+    }
+
+    ghost some_units = { Prim.search rules };
 }
 
 // The biomass of the crown of a tree of the mean diameter d, UNITS_TO_CM to the cm.
-#[tactic(auto, unfolding(crate::specs::Crown::crown))]
-pub fn crown(group: u64, d: u64) -> Biomass
-    ensures { biomass result ≡ crown group d }
+#[tactic(auto, unfolding(crate::specs::Crown::crown, crate::specs::Crown::crown_ends))]
+pub fn crown(group: u64, d: u64) -> Result<BiomassRange, Refusal>
+    ensures { report refusal_number result ≡ crown group d }
 {
-    if !within(0, group, 7) {
-        return Biomass::Refused(Refusal::Operand);
-    }
-    if !within(LEAST_D, d, GREATEST_D) {
-        return Biomass::Refused(Refusal::Operand);
-    }
-    Biomass::Is(crown_in_range(group, d))
+    biomass_of::<Crowns>(group, d)
 }

@@ -8,6 +8,8 @@ pub mod crown;
 mod ends;
 pub mod limits;
 pub mod mean;
+mod operand;
+mod part;
 pub mod project;
 pub mod report;
 pub mod root;

@@ -1,17 +1,16 @@
 // Step 6: the root's biomass.
-ghost use Rattle.std.specs.Prelude.{◌≡◌, ◌≤◌, [], get_or};
-ghost use Rattle.biomass.specs.Report.{biomass};
-ghost use Rattle.powers.specs.Diameter.{least_d, greatest_d, root_limit};
-ghost use Rattle.biomass.specs.Ends.{range};
-ghost use Rattle.biomass.specs.Root.{root, root_table, root_ends, y};
-ghost use Rattle.biomass.specs.Bounds.{Inside};
+ghost use Rattle.std.specs.Prelude.{◌≡◌};
+ghost use Rattle.std.proofs.Common.{rules};
+ghost use Rattle.powers.specs.Diameter.{root_limit};
+ghost use Rattle.biomass.specs.Report.{report, refusal_number};
+ghost use Rattle.biomass.specs.Root.{root, root_table, y};
 
-use super::ends::{on_curve, on_line};
-use super::report::{Biomass, Refusal};
+use super::operand::Diameter;
+use super::part::{Part, biomass_of};
+use super::report::Refusal;
 use super::square_root::square_root;
 use super::units::BiomassRange;
-use super::whole::within;
-use powers::diameter::{GREATEST_D, LEAST_D, ROOT_LIMIT};
+use powers::diameter::ROOT_LIMIT;
 
 // Western red cedar and noble fir and Corsican pine, Norway spruce, grand fir and Scots pine and western hemlock,
 // Douglas fir and Japanese larch and lodgepole pine, Sitka spruce, red alder.
@@ -25,45 +24,42 @@ const ROOT: [[i64; 3]; 6] = [
     [22_700, -174_882_004, 9_559_391],
 ];
 
-// The whole units of the root power at d.
-fn root_power(d: u64) -> u64
-    requires { d ≤ root_limit }
-    ensures { result ≡ y d }
-{
-    square_root(100_000 * (d * d * d * d * d)).root
-}
+struct Roots;
 
-// A group's row of the table, copied out.
-fn root_row(group: u64) -> [i64; 3]
-    requires { group ≤ 5 }
-    ensures { result ≡ get_or root_table group [] }
-{
-    let at = group as usize;
-    ROOT[at]
-}
+impl Part for Roots {
+    ghost table = { root_table };
 
-// The root's biomass where the operands are in their ranges.
-fn root_in_range(group: u64, d: u64) -> BiomassRange
-    requires { Inside 0 group 5 × Inside least_d d greatest_d }
-    ensures { result ≡ range (root_ends group d) }
-{
-    let row = root_row(group);
-    if d <= ROOT_LIMIT {
-        return on_curve(row[0] as u64, root_power(d), 100_000);
+    const LAST: u64 = 5;
+
+    ghost LAST = { 5 };
+
+    const LIMIT: u64 = ROOT_LIMIT;
+
+    ghost LIMIT = { root_limit };
+
+    ghost power = { y };
+
+    const UNIT: u64 = 100_000;
+
+    ghost UNIT = { 100000 };
+
+    fn row(group: u64) -> [i64; 3] {
+        ROOT[group as usize]
     }
-    on_line(row[1], row[2], d)
+
+    #[tactic(auto, using(crate::proofs::Fits::root_power_fits), unfolding(crate::specs::Root::y, crate::specs::SquareRoot::square_root))]
+    fn power(d: Diameter) -> u64 {
+        let d = d.number;
+        square_root(100_000 * (d * d * d * d * d)).root
+    }
+
+    ghost some_units = { Prim.search rules };
 }
 
 // The biomass of the root of a tree of the mean diameter d, UNITS_TO_CM to the cm.
-#[tactic(auto, unfolding(crate::specs::Root::root))]
-pub fn root(group: u64, d: u64) -> Biomass
-    ensures { biomass result ≡ root group d }
+#[tactic(auto, unfolding(crate::specs::Root::root, crate::specs::Root::root_ends))]
+pub fn root(group: u64, d: u64) -> Result<BiomassRange, Refusal>
+    ensures { report refusal_number result ≡ root group d }
 {
-    if !within(0, group, 5) {
-        return Biomass::Refused(Refusal::Operand);
-    }
-    if !within(LEAST_D, d, GREATEST_D) {
-        return Biomass::Refused(Refusal::Operand);
-    }
-    Biomass::Is(root_in_range(group, d))
+    biomass_of::<Roots>(group, d)
 }

@@ -1,15 +1,14 @@
 // Step 7: one tree, and one row.
 ghost use Rattle.std.specs.Prelude.{◌≡◌};
-ghost use Rattle.biomass.specs.Report.{biomass};
+ghost use Rattle.biomass.specs.Report.{report, refusal_number};
 ghost use Rattle.biomass.specs.Tree.{tree, row_biomass};
 
 use super::crown::crown;
-use super::limits::MOST_ESTIMATED;
-use super::report::{Biomass, Refusal};
+use super::operand::Hundredths;
+use super::report::Refusal;
 use super::root::root;
 use super::stem::stem;
-use super::units::{BiomassRange, Milligrams};
-use super::whole::within;
+use super::units::{BiomassRange, Milligrams, Range};
 
 // The tree of a line's mean diameter: all that steps 4 to 6 are worked from.
 #[derive(Clone, Copy)]
@@ -29,49 +28,27 @@ pub struct AverageTree {
 }
 
 // The biomass of one tree: its stem, crown and root together.
-#[tactic(auto, unfolding(crate::specs::Tree::tree))]
-pub fn tree(t: AverageTree) -> Biomass
-    ensures { biomass result ≡ tree t }
+#[tactic(auto, using(crate::proofs::Fits::tree_fits), unfolding(crate::specs::Tree::tree))]
+pub fn tree(t: AverageTree) -> Result<BiomassRange, Refusal>
+    ensures { report refusal_number result ≡ tree t }
 {
-    let s = match stem(t.tariff, t.d, t.factor, t.gravity) {
-        Biomass::Is(m) => m,
-        Biomass::Refused(why) => return Biomass::Refused(why),
-    };
-    let c = match crown(t.crown, t.d) {
-        Biomass::Is(m) => m,
-        Biomass::Refused(why) => return Biomass::Refused(why),
-    };
-    let r = match root(t.root, t.d) {
-        Biomass::Is(m) => m,
-        Biomass::Refused(why) => return Biomass::Refused(why),
-    };
-    Biomass::Is(BiomassRange {
+    let s = stem(t.tariff, t.d, t.factor, t.gravity)?;
+    let c = crown(t.crown, t.d)?;
+    let r = root(t.root, t.d)?;
+    Ok(BiomassRange {
         low: Milligrams(s.low.0 + c.low.0 + r.low.0),
         high: Milligrams(s.high.0 + c.high.0 + r.high.0),
     })
 }
 
 // The biomass of a row: so many hundredths of a tree, each the average one.
-#[tactic(auto, unfolding(crate::specs::Tree::row_biomass))]
-pub fn row_biomass(trees: u64, t: AverageTree) -> Biomass
-    ensures { biomass result ≡ row_biomass trees t }
+#[tactic(auto, using(crate::proofs::Fits::row_fits), unfolding(crate::specs::Tree::row_biomass))]
+pub fn row_biomass(trees: u64, t: AverageTree) -> Result<BiomassRange, Refusal>
+    ensures { report refusal_number result ≡ row_biomass trees t }
 {
-    if !within(0, trees, MOST_ESTIMATED) {
-        return Biomass::Refused(Refusal::Operand);
-    }
-    let m = match tree(t) {
-        Biomass::Is(m) => m,
-        Biomass::Refused(why) => return Biomass::Refused(why),
-    };
-    let low = Milligrams(trees * m.low.0 / 100);
-    if trees == 0 {
-        return Biomass::Is(BiomassRange {
-            low,
-            high: Milligrams(0),
-        });
-    }
-    Biomass::Is(BiomassRange {
-        low,
-        high: Milligrams(trees * m.high.0 / 100 + 1),
-    })
+    let trees = Hundredths::new(trees)?;
+    let m = tree(t)?;
+    let low = trees.number * m.low.0 / 100;
+    let high = trees.number * m.high.0 / 100 + 1;
+    Ok(Range::of_trees(trees.number, Milligrams(low), Milligrams(high)))
 }

@@ -1,35 +1,26 @@
 // Step 3: the number of trees that a line's measured trees stand for.
 ghost use Rattle.std.specs.Prelude.{◌≡◌};
-ghost use Rattle.biomass.specs.Report.{count};
-ghost use Rattle.biomass.specs.Limits.{most_measured, greatest_area};
+ghost use Rattle.biomass.specs.Report.{report, refusal_number};
 ghost use Rattle.biomass.specs.Trees.{trees, trees_of};
-ghost use Rattle.biomass.specs.Bounds.{Inside};
 
 use super::limits::{GREATEST_AREA, MOST_MEASURED};
-use super::report::{Count, Refusal};
-use super::whole::within;
+use super::operand::Within;
+use super::report::Refusal;
 
-// Step 3's quotient, where the operands are in their ranges.
-fn trees_of(n: u64, p: u64, q: u64) -> u64
-    requires { Inside 0 n most_measured × Inside 1 p greatest_area × Inside 1 q greatest_area }
-    ensures { result ≡ trees_of n p q }
+// A plot's area, or a line's.
+type Area = Within<1, GREATEST_AREA>;
+
+// Step 3's quotient.
+fn trees_of(n: Within<0, MOST_MEASURED>, p: Area, q: Area) -> u64
+    ensures { result ≡ trees_of n.number p.number q.number }
 {
-    (200 * n * p + q) / (2 * q)
+    (200 * n.number * p.number + q.number) / (2 * q.number)
 }
 
 // Estimated trees in hundredths: n measured ones, scaled by p over q.
 #[tactic(auto, unfolding(crate::specs::Trees::trees))]
-pub fn trees(n: u64, p: u64, q: u64) -> Count
-    ensures { count result ≡ trees n p q }
+pub fn trees(n: u64, p: u64, q: u64) -> Result<u64, Refusal>
+    ensures { report refusal_number result ≡ trees n p q }
 {
-    if !within(0, n, MOST_MEASURED) {
-        return Count::Refused(Refusal::Operand);
-    }
-    if !within(1, p, GREATEST_AREA) {
-        return Count::Refused(Refusal::Operand);
-    }
-    if !within(1, q, GREATEST_AREA) {
-        return Count::Refused(Refusal::Operand);
-    }
-    Count::Is(trees_of(n, p, q))
+    Ok(trees_of(Within::new(n)?, Area::new(p)?, Area::new(q)?))
 }

@@ -6,8 +6,5 @@ ghost use Rattle.biomass.specs.Whole.{inside};
 pub fn within(lo: u64, x: u64, hi: u64) -> bool
     ensures { result ≡ inside lo x hi }
 {
-    if x < lo {
-        return false;
-    }
-    x <= hi
+    (lo..=hi).contains(&x)
 }

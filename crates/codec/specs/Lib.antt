@@ -3,6 +3,7 @@
 pub mod Refusal
 pub mod Bytes
 pub mod Command
+pub mod Kind
 pub mod Reading
 pub mod Writing
 pub mod RoundTrip

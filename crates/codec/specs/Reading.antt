@@ -2,16 +2,9 @@
 -- refusal, the command and the place after it."
 use Rattle.std.specs.Prelude.{ℕ, ◌+◌, cond, List, length, leb, ltb, eqb}
 use Rattle.biomass.specs.Report.{Report, refused, gives, unless}
-use Rattle.codec.specs.Refusal.{number}
 use Rattle.codec.specs.Bytes.{byte, number_at, signed}
 use Rattle.codec.specs.declared.command.Command.{Command}
 use Rattle.codec.specs.declared.command.Command.TheVariants.{Species, Factor, Open, Measured, Height, Close, End, Small}
-use Rattle.codec.specs.declared.reading.Reading.{Reading}
-
--- what the code answers
-abbrev pub reading : Reading → Report (Command × ℕ)
-reading (Reading.Is c next) = gives (c, next)
-reading (Reading.Refused why) = refused (number why)
 
 -- "3 operands cut short": a command whose operands take so many bytes from a place on
 abbrev pub with_operands : List ℕ → ℕ → ℕ → Command → Report (Command × ℕ)
@@ -25,10 +18,12 @@ species_from s i =
       crown = byte s (i + 1);
       root = byte s (i + 2);
       gravity = byte s (i + 3);
-      c1 = signed (number_at 4 s (i + 4));
-      c2 = signed (number_at 4 s (i + 8));
-      c3 = signed (number_at 4 s (i + 12));
-      c4 = signed (number_at 4 s (i + 16));
+      constants = record {
+        c1 = signed (number_at 4 s (i + 4));
+        c2 = signed (number_at 4 s (i + 8));
+        c3 = signed (number_at 4 s (i + 12));
+        c4 = signed (number_at 4 s (i + 16));
+      };
     }))
 
 unfoldable pub factor_from : List ℕ → ℕ → Report (Command × ℕ)

@@ -1,17 +1,10 @@
 -- "Writing one command at a place: 4 too few bytes from there. Nothing is written; else only the command's bytes change, and the place after them
 -- comes back."
 use Rattle.std.specs.Prelude.{ℕ, ◌+◌, Bool, List, length, leb}
-use Rattle.biomass.specs.Report.{Report, refused, gives, unless}
+use Rattle.biomass.specs.Report.{Report, gives, unless}
 use Rattle.codec.specs.Bytes.{store}
-use Rattle.codec.specs.Refusal.{number}
 use Rattle.codec.specs.Command.{encode}
 use Rattle.codec.specs.declared.command.Command.{Command}
-use Rattle.codec.specs.declared.writing.Written.{Written}
-
--- what the code answers
-abbrev pub writing : Written → Report ℕ
-writing (Written.Next next) = gives next
-writing (Written.Refused why) = refused (number why)
 
 -- whether the command's bytes fit between the place and the buffer's end; at a place past the end nothing does
 abbrev pub fits_at : List ℕ → ℕ → Command → Bool

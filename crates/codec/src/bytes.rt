@@ -1,63 +1,66 @@
 // Numbers of one to eight bytes, high byte first, and signed ones of four in two's complement.
-ghost use Rattle.std.specs.Prelude.{◌≡◌, ◌+◌, ◌*◌};
+ghost use Rattle.std.specs.Prelude.{◌≡◌, ℕ, ◌+◌, ◌<◌, get_or, length, leb};
+ghost use Rattle.biomass.specs.Report.{report, unless, gives};
+ghost use Rattle.codec.specs.Refusal.{number};
 ghost use Rattle.codec.specs.Bytes.{byte, number_at, bytes, store, after_store, signed, unsigned};
+
+use super::refusal::Refusal;
 
 // The byte at a place; 0 past the end.
 pub fn byte(s: &[u8], at: usize) -> u8
     ensures { result ≡ byte s.now at }
 {
-    if s.len() <= at {
-        return 0;
-    }
-    s[at]
+    s.get(at).copied().unwrap_or(0)
 }
 
-// The number that two bytes make.
-pub(crate) fn pair(high: u8, low: u8) -> u16
-    ensures { result ≡ high * 256 + low }
+// The bytes from a place on; none past the end.
+fn rest(s: &[u8], at: usize) -> &[u8]
+    ensures { (k : ℕ) → byte result.now k ≡ byte s.now (at + k) }
 {
-    (high as u16) * 256 + (low as u16)
+    if s.len() < at {
+        return &[];
+    }
+    &s[at..]
 }
 
-// The number in the two bytes from a place on. Here and below, a byte past the end is 0.
+// The N bytes from a place on. Here and below, a byte past the end is 0.
+fn bytes_from<const N: usize>(s: &[u8], at: usize) -> [u8; N]
+    ensures { (k : ℕ) → k < N → get_or result k 0 ≡ byte s.now (at + k) }
+{
+    let rest = rest(s, at);
+    let mut all = [0; N];
+    for i in 0..N {
+        all[i] = byte(rest, i);
+    }
+    all
+}
+
+// The number in the two bytes from a place on.
 pub fn two(s: &[u8], at: usize) -> u16
     ensures { result ≡ number_at 2 s.now at }
 {
-    if s.len() <= at {
-        return 0;
-    }
-    pair(byte(s, at), byte(s, at + 1))
+    u16::from_be_bytes(bytes_from(s, at))
 }
 
 // The number in the four bytes from a place on.
 pub fn four(s: &[u8], at: usize) -> u32
     ensures { result ≡ number_at 4 s.now at }
 {
-    if s.len() <= at {
-        return 0;
-    }
-    (two(s, at) as u32) * 65_536 + (two(s, at + 2) as u32)
+    u32::from_be_bytes(bytes_from(s, at))
 }
 
 // The number in the eight bytes from a place on.
 pub fn eight(s: &[u8], at: usize) -> u64
     ensures { result ≡ number_at 8 s.now at }
 {
-    if s.len() <= at {
-        return 0;
-    }
-    (four(s, at) as u64) * 4_294_967_296 + (four(s, at + 4) as u64)
+    u64::from_be_bytes(bytes_from(s, at))
 }
 
 // The signed number that 32 bits stand for.
 pub fn signed_of(bits: u32) -> i32
     ensures { result ≡ signed bits }
 {
-    if bits < 0x8000_0000 {
-        bits as i32
-    } else {
-        -1 - ((0xffff_ffff - bits) as i32)
-    }
+    bits.cast_signed()
 }
 
 // The signed number in the four bytes from a place on.
@@ -71,11 +74,7 @@ pub(crate) fn signed_four(s: &[u8], at: usize) -> i32
 pub fn bits_of(x: i32) -> u32
     ensures { result ≡ unsigned x }
 {
-    if x < 0 {
-        0xffff_ffff - ((-1 - x) as u32)
-    } else {
-        x as u32
-    }
+    x.cast_unsigned()
 }
 
 // Stores the last `width` bytes of a number from a place on, and answers the place after them. Where there is no room for all of
@@ -90,12 +89,26 @@ pub fn store(buffer: &mut [u8], at: usize, width: usize, x: u64) -> usize
     if buffer.len() - width < at {
         return at;
     }
-    let mut i = width;
     let mut rest = x;
-    while 0 < i {
-        i -= 1;
+    for i in (0..width).rev() {
         buffer[at + i] = (rest % 256) as u8;
-        rest = rest / 256;
+        rest /= 256;
     }
     at + width
+}
+
+// Stores bytes from a place on, and answers the place after them. Where there is no room for all of them, nothing is written.
+#[tactic(auto, unfolding(crate::specs::Bytes::store, crate::specs::Bytes::stored_at))]
+pub fn put<const N: usize>(buffer: &mut [u8], at: usize, bytes: [u8; N]) -> Result<usize, Refusal>
+    ensures answer { report number result ≡ unless (leb (at + N) (length buffer.old)) 4 (gives (at + N)) }
+    ensures stored { buffer.new ≡ store buffer.old at bytes.entry }
+{
+    if buffer.len() < N {
+        return Err(Refusal::NoRoom);
+    }
+    if buffer.len() - N < at {
+        return Err(Refusal::NoRoom);
+    }
+    buffer[at..at + N].copy_from_slice(&bytes);
+    Ok(at + N)
 }

@@ -1,168 +1,141 @@
 // Reading one command at a place of any bytes.
-ghost use Rattle.std.specs.Prelude.{◌≡◌, ◌≤◌, length};
+ghost use Rattle.std.specs.Prelude.{◌≡◌, ◌+◌, ◌≤◌, ◌<◌, length, leb, take, drop, MatchResult};
+ghost use Rattle.biomass.specs.Report.{report, unless, gives};
+ghost use Rattle.codec.specs.Bytes.{byte, number_at};
+ghost use Rattle.codec.specs.Refusal.{number};
+ghost use Rattle.codec.specs.Kind.{kind_byte};
 ghost use Rattle.codec.specs.RoundTrip.{WritesBack};
-ghost use Rattle.codec.specs.Reading.{reading, read, place_after, species_from, factor_from, open_from, measured_from, height_from, small_from};
+ghost use Rattle.codec.specs.Reading.{species_from, open_from, command_from, read, place_after};
+ghost use Rattle.codec.specs.declared.refusal.Refusal.TheVariants.{CutShort};
 
-use super::bytes::{four, pair, signed_four, two};
-use super::command::{Command, Species};
+use super::bytes::{four, signed_four};
+use super::command::{Command, Kind, Species};
 use super::refusal::Refusal;
+use biomass::tariff::Constants;
 
-// The command and the place after it, or why there is none.
-#[derive(Clone, Copy)]
-pub enum Reading {
-    Is(Command, usize),
-    Refused(Refusal),
+// A command's N bytes of operands, from a place on.
+fn operands<const N: usize>(book: &[u8], from: usize) -> Result<&[u8; N], Refusal>
+    ensures { MatchResult result (λ o. (from + N ≤ length book.now) × (o.now ≡ take N (drop from book.now))) (λ why. (why ≡ CutShort) × (length book.now < from + N)) }
+{
+    match book.get(from..) {
+        Some(rest) => rest.first_chunk().ok_or(Refusal::CutShort),
+        None => Err(Refusal::CutShort),
+    }
+}
+
+// An operand of one byte, and one of two after it.
+fn byte_and_pair(book: &[u8], from: usize) -> Result<(u8, u16), Refusal>
+    ensures { report number result ≡ unless (leb (from + 3) (length book.now)) 3 (gives (byte book.now from, number_at 2 book.now (from + 1))) }
+{
+    let &[first, high, low] = operands::<3>(book, from)?;
+    Ok((first, u16::from_be_bytes([high, low])))
 }
 
 #[tactic(auto, unfolding(crate::specs::Reading::species_from))]
-fn read_species(book: &[u8], from: usize) -> Reading
-    requires { from ≤ length book.now }
-    ensures { reading result ≡ species_from book.now from }
+fn read_species(book: &[u8], from: usize) -> Result<(Command, usize), Refusal>
+    ensures { report number result ≡ species_from book.now from }
 {
-    if book.len() - from < 20 {
-        return Reading::Refused(Refusal::CutShort);
-    }
+    let &[id, crown, root, gravity, ..] = operands::<20>(book, from)?;
     let species = Species {
-        crown: book[from + 1],
-        root: book[from + 2],
-        gravity: book[from + 3],
-        c1: signed_four(book, from + 4),
-        c2: signed_four(book, from + 8),
-        c3: signed_four(book, from + 12),
-        c4: signed_four(book, from + 16),
+        crown,
+        root,
+        gravity,
+        constants: Constants {
+            c1: signed_four(book, from + 4),
+            c2: signed_four(book, from + 8),
+            c3: signed_four(book, from + 12),
+            c4: signed_four(book, from + 16),
+        },
     };
-    Reading::Is(Command::Species(book[from], species), from + 20)
-}
-
-#[tactic(auto, unfolding(crate::specs::Reading::factor_from))]
-fn read_factor(book: &[u8], from: usize) -> Reading
-    requires { from ≤ length book.now }
-    ensures { reading result ≡ factor_from book.now from }
-{
-    if book.len() - from < 2 {
-        return Reading::Refused(Refusal::CutShort);
-    }
-    let command = Command::Factor {
-        cm: book[from],
-        factor: book[from + 1],
-    };
-    Reading::Is(command, from + 2)
+    Ok((Command::Species(id, species), from + 20))
 }
 
 #[tactic(auto, unfolding(crate::specs::Reading::open_from))]
-fn read_open(book: &[u8], from: usize) -> Reading
-    requires { from ≤ length book.now }
-    ensures { reading result ≡ open_from book.now from }
+fn read_open(book: &[u8], from: usize) -> Result<(Command, usize), Refusal>
+    ensures { report number result ≡ open_from book.now from }
 {
-    if book.len() - from < 10 {
-        return Reading::Refused(Refusal::CutShort);
-    }
+    let &[stratum, species, ..] = operands::<10>(book, from)?;
     let command = Command::Open {
-        stratum: book[from],
-        species: book[from + 1],
+        stratum,
+        species,
         p: four(book, from + 2),
         q: four(book, from + 6),
     };
-    Reading::Is(command, from + 10)
+    Ok((command, from + 10))
 }
 
-#[tactic(auto, unfolding(crate::specs::Reading::measured_from))]
-fn read_measured(book: &[u8], from: usize) -> Reading
-    requires { from ≤ length book.now }
-    ensures { reading result ≡ measured_from book.now from }
+// The operands of a command of that kind, from a place on.
+#[tactic(auto, unfolding(crate::specs::Reading::command_from, crate::specs::Reading::factor_from, crate::specs::Reading::measured_from, crate::specs::Reading::height_from, crate::specs::Reading::small_from))]
+fn read_operands(kind: Kind, book: &[u8], from: usize) -> Result<(Command, usize), Refusal>
+    ensures { report number result ≡ command_from (kind_byte kind) book.now from }
 {
-    if book.len() - from < 3 {
-        return Reading::Refused(Refusal::CutShort);
-    }
-    let command = Command::Measured {
-        class: book[from],
-        count: pair(book[from + 1], book[from + 2]),
-    };
-    Reading::Is(command, from + 3)
-}
-
-#[tactic(auto, unfolding(crate::specs::Reading::height_from))]
-fn read_height(book: &[u8], from: usize) -> Reading
-    requires { from ≤ length book.now }
-    ensures { reading result ≡ height_from book.now from }
-{
-    if book.len() - from < 3 {
-        return Reading::Refused(Refusal::CutShort);
-    }
-    let command = Command::Height {
-        cm: book[from],
-        tenths: pair(book[from + 1], book[from + 2]),
-    };
-    Reading::Is(command, from + 3)
-}
-
-#[tactic(auto, unfolding(crate::specs::Reading::small_from))]
-fn read_small(book: &[u8], from: usize) -> Reading
-    requires { from ≤ length book.now }
-    ensures { reading result ≡ small_from book.now from }
-{
-    if book.len() - from < 8 {
-        return Reading::Refused(Refusal::CutShort);
-    }
-    let command = Command::Small {
-        carbon: four(book, from),
-        count: four(book, from + 4),
-    };
-    Reading::Is(command, from + 8)
-}
-
-// The command at a place of a book.
-#[tactic(auto, using(crate::proofs::Place::again), unfolding(crate::specs::Reading::read, crate::specs::Reading::command_from))]
-pub fn read(book: &[u8], at: usize) -> Reading
-    ensures answer { reading result ≡ read book.now at }
-    ensures again { WritesBack book.now at (reading result) }
-{
-    if book.len() <= at {
-        return Reading::Refused(Refusal::AtEnd);
-    }
-    let from = at + 1;
-    match book[at] {
-        0x01 => read_species(book, from),
-        0x02 => read_factor(book, from),
-        0x03 => read_open(book, from),
-        0x04 => read_measured(book, from),
-        0x05 => read_height(book, from),
-        0x06 => Reading::Is(Command::Close, from),
-        0x07 => Reading::Is(Command::End, from),
-        0x08 => read_small(book, from),
-        0x00 | 0x09..=0xff => Reading::Refused(Refusal::UnknownByte),
+    match kind {
+        Kind::Species => read_species(book, from),
+        Kind::Factor => {
+            let &[cm, factor] = operands::<2>(book, from)?;
+            Ok((Command::Factor { cm, factor }, from + 2))
+        }
+        Kind::Open => read_open(book, from),
+        Kind::Measured => {
+            let (class, count) = byte_and_pair(book, from)?;
+            Ok((Command::Measured { class, count }, from + 3))
+        }
+        Kind::Height => {
+            let (cm, tenths) = byte_and_pair(book, from)?;
+            Ok((Command::Height { cm, tenths }, from + 3))
+        }
+        Kind::Close => Ok((Command::Close, from)),
+        Kind::End => Ok((Command::End, from)),
+        Kind::Small => {
+            operands::<8>(book, from)?;
+            let carbon = four(book, from);
+            let count = four(book, from + 4);
+            Ok((Command::Small { carbon, count }, from + 8))
+        }
     }
 }
 
-// Any other command. It is a routine of its own since what a call answers lies in memory that is cleared where the routine
-// with the call begins: in `read_of_line` that would be done for each measured tree.
-fn read_other(book: &[u8], at: usize) -> Reading
-    ensures { reading result ≡ read book.now at }
+// The command at a place of a book. It is not put into its callers: in `read_of_line` its places would be worked out for each
+// measured tree.
+#[inline(never)]
+#[tactic(auto, using(crate::proofs::Place::unknown), unfolding(crate::specs::Reading::read))]
+fn command_at(book: &[u8], at: usize) -> Result<(Command, usize), Refusal>
+    ensures { report number result ≡ read book.now at }
 {
-    read(book, at)
+    let byte = *book.get(at).ok_or(Refusal::AtEnd)?;
+    read_operands(Kind::try_from(byte)?, book, at + 1)
+}
+
+// The command at a place of a book. What is read is written back as it was.
+#[tactic(auto, using(crate::proofs::Place::again))]
+pub fn read(book: &[u8], at: usize) -> Result<(Command, usize), Refusal>
+    ensures answer { report number result ≡ read book.now at }
+    ensures again { WritesBack book.now at (report number result) }
+{
+    command_at(book, at)
 }
 
 // What `read` answers, with the commands of an open line looked for first: nearly all commands of a long book are of these two.
-#[tactic(auto, unfolding(crate::specs::Reading::read, crate::specs::Reading::command_from))]
-pub fn read_of_line(book: &[u8], at: usize) -> Reading
-    ensures { reading result ≡ read book.now at }
+#[tactic(auto, unfolding(crate::specs::Reading::read))]
+pub fn read_of_line(book: &[u8], at: usize) -> Result<(Command, usize), Refusal>
+    ensures { report number result ≡ read book.now at }
 {
-    if book.len() <= at {
-        return Reading::Refused(Refusal::AtEnd);
+    let byte = *book.get(at).ok_or(Refusal::AtEnd)?;
+    if byte == Kind::Measured.byte() {
+        return read_operands(Kind::Measured, book, at + 1);
     }
-    match book[at] {
-        0x04 => read_measured(book, at + 1),
-        0x05 => read_height(book, at + 1),
-        _ => read_other(book, at),
+    if byte == Kind::Height.byte() {
+        return read_operands(Kind::Height, book, at + 1);
     }
+    read(book, at)
 }
 
 // The place to go on from: after a command the place after it, and after a refusal the place where it was.
-pub fn place_after(at: usize, answer: Reading) -> usize
-    ensures { result ≡ place_after at (reading answer) }
+pub fn place_after(at: usize, answer: Result<(Command, usize), Refusal>) -> usize
+    ensures { result ≡ place_after at (report number answer) }
 {
     match answer {
-        Reading::Is(_, next) => next,
-        Reading::Refused(_) => at,
+        Ok((_, next)) => next,
+        Err(_) => at,
     }
 }

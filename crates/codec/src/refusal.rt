@@ -3,40 +3,40 @@ ghost use Rattle.std.specs.Prelude.{◌≡◌};
 ghost use Rattle.biomass.specs.Report.{refusal_number};
 ghost use Rattle.codec.specs.Refusal.{number};
 
-#[derive(Clone, Copy)]
+#[derive(Clone, Copy, Debug, PartialEq, Eq)]
 pub enum Refusal {
     // Reading: the place is at or past the end.
-    AtEnd,
+    AtEnd = 1,
     // Reading: no command has this byte.
-    UnknownByte,
+    UnknownByte = 2,
     // Reading: operands cut short.
-    CutShort,
+    CutShort = 3,
     // Writing: too few bytes from there.
-    NoRoom,
+    NoRoom = 4,
     // The book has ended.
-    Ended,
+    Ended = 5,
     // An operand is outside its range.
-    Operand,
+    Operand = 6,
     // Already given, or already opened.
-    AlreadyGiven,
+    AlreadyGiven = 7,
     // The species is undeclared.
-    Undeclared,
+    Undeclared = 8,
     // A line is open.
-    LineOpen,
+    LineOpen = 9,
     // No line is open.
-    NoLine,
+    NoLine = 10,
     // 32 lines are opened, or the line would be over its limit.
-    Limit,
+    Limit = 11,
     // No height tree.
-    NoHeightTree,
+    NoHeightTree = 12,
     // A tariff outside 1 to 50.
-    Tariff,
+    Tariff = 13,
     // No factor for the mean diameter.
-    NoFactor,
+    NoFactor = 14,
     // More estimated trees than a line may have.
-    TooManyTrees,
+    TooManyTrees = 15,
     // Totalling: the sheet has too few bytes.
-    ShortSheet,
+    ShortSheet = 16,
 }
 
 impl Refusal {
@@ -44,33 +44,18 @@ impl Refusal {
     pub fn number(self) -> u8
         ensures { result ≡ number self }
     {
-        match self {
-            Refusal::AtEnd => 1,
-            Refusal::UnknownByte => 2,
-            Refusal::CutShort => 3,
-            Refusal::NoRoom => 4,
-            Refusal::Ended => 5,
-            Refusal::Operand => 6,
-            Refusal::AlreadyGiven => 7,
-            Refusal::Undeclared => 8,
-            Refusal::LineOpen => 9,
-            Refusal::NoLine => 10,
-            Refusal::Limit => 11,
-            Refusal::NoHeightTree => 12,
-            Refusal::Tariff => 13,
-            Refusal::NoFactor => 14,
-            Refusal::TooManyTrees => 15,
-            Refusal::ShortSheet => 16,
-        }
+        self as u8
     }
 }
 
 // What a figure declines, as a refusal of the survey: the number is the same.
-pub fn of_figure(why: biomass::report::Refusal) -> Refusal
-    ensures { number result ≡ refusal_number why }
-{
-    match why {
-        biomass::report::Refusal::Operand => Refusal::Operand,
-        biomass::report::Refusal::Tariff => Refusal::Tariff,
+impl From<biomass::report::Refusal> for Refusal {
+    ghost from_gives = { λ why refusal. number refusal ≡ refusal_number why };
+
+    fn from(why: biomass::report::Refusal) -> Refusal {
+        match why {
+            biomass::report::Refusal::Operand => Refusal::Operand,
+            biomass::report::Refusal::Tariff => Refusal::Tariff,
+        }
     }
 }

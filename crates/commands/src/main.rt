@@ -7,132 +7,99 @@
 // commands follow it, is for totalling to judge: a book that is listed here to its last byte may still be refused there.
 #![tactic(auto)]
 
-ghost use Rattle.std.specs.Prelude.{◌≡◌, nat_abs};
+ghost use Rattle.std.specs.Prelude.{Some};
+ghost use Rattle.commands.specs.Words.{constants, declared, words};
 
+use biomass::tariff::Constants;
 use codec::command::{Command, Species};
-use codec::reading::Reading;
-use console::{Output, input_buffer, read_input, too_long};
+use console::{Output, RefusalLine, print_of_book};
+use std::fmt::{Display, Formatter};
 use std::io::Write;
-use survey::reader::{command_at, read_through};
+use std::{fmt, io};
+use survey::reader::{BookReader, Extent, read_through};
 
-// How far a number is from 0.
-fn size(n: i32) -> u64
-    ensures { result ≡ nat_abs n }
-{
-    u64::from(n.unsigned_abs())
-}
+// The constants of a species, each with its sign where it is below 0.
+#[derive(Clone, Copy)]
+struct Signed(Constants);
 
-// A number with its sign, after a space.
-fn print_constant<W: Write + Drop>(output: Output<W>, n: i32) -> Output<W> {
-    if n < 0 {
-        output.named(b" -", size(n))
-    } else {
-        output.named(b" ", size(n))
+impl Display for Signed {
+    ghost output = { λ signed. Some (constants signed.0) };
+
+    fn fmt<W: fmt::Write>(&self, f: &mut Formatter<W>) -> fmt::Result {
+        let Constants { c1, c2, c3, c4 } = self.0;
+        write!(f, "constants {c1} {c2} {c3} {c4}")
     }
 }
 
-fn print_constants<W: Write + Drop>(output: Output<W>, species: Species) -> Output<W> {
-    let c1 = print_constant(output, species.c1);
-    let c2 = print_constant(c1, species.c2);
-    let c3 = print_constant(c2, species.c3);
-    print_constant(c3, species.c4)
+// What a species is declared with, in words.
+#[derive(Clone, Copy)]
+struct Declared(Species);
+
+impl Display for Declared {
+    ghost output = { λ species. Some (declared species.0) };
+
+    fn fmt<W: fmt::Write>(&self, f: &mut Formatter<W>) -> fmt::Result {
+        let (crown, root, gravity) = (self.0.crown, self.0.root, self.0.gravity);
+        let constants = Signed(self.0.constants);
+        write!(f, "crown {crown} root {root} gravity {gravity} {constants}")
+    }
 }
 
-fn print_species<W: Write + Drop>(output: Output<W>, id: u8, species: Species) -> Output<W> {
-    let operands = output
-        .named(b"species ", id as u64)
-        .named(b" crown ", species.crown as u64)
-        .named(b" root ", species.root as u64)
-        .named(b" gravity ", species.gravity as u64)
-        .text(b" constants");
-    print_constants(operands, species)
-}
+// A command in words.
+#[derive(Clone, Copy)]
+struct Words(Command);
 
-fn print_command<W: Write + Drop>(output: Output<W>, command: Command) -> Output<W> {
-    match command {
-        Command::Species(id, species) => print_species(output, id, species),
-        Command::Factor { cm, factor } => {
-            output
-                .named(b"factor ", cm as u64)
-                .named(b" cm ", factor as u64)
-        }
-        Command::Open {
-            stratum,
-            species,
-            p,
-            q,
-        } => {
-            output
-                .named(b"open stratum ", stratum as u64)
-                .named(b" species ", species as u64)
-                .named(b" p ", p as u64)
-                .named(b" q ", q as u64)
-        }
-        Command::Measured { class, count } => {
-            output
-                .named(b"measured ", class as u64)
-                .named(b" cm ", count as u64)
-        }
-        Command::Height { cm, tenths } => {
-            output
-                .named(b"height ", cm as u64)
-                .named(b" cm ", tenths as u64)
-        }
-        Command::Close => output.text(b"close"),
-        Command::End => output.text(b"end"),
-        Command::Small { carbon, count } => {
-            output
-                .named(b"small ", carbon as u64)
-                .named(b" mg ", count as u64)
+impl Display for Words {
+    ghost output = { λ command. Some (words command.0) };
+
+    fn fmt<W: fmt::Write>(&self, f: &mut Formatter<W>) -> fmt::Result {
+        match self.0 {
+            Command::Species(id, species) => write!(f, "species {id} {}", Declared(species)),
+            Command::Factor { cm, factor } => write!(f, "factor {cm} cm {factor}"),
+            Command::Open {
+                stratum,
+                species,
+                p,
+                q,
+            } => write!(f, "open stratum {stratum} species {species} p {p} q {q}"),
+            Command::Measured { class, count } => write!(f, "measured {class} cm {count}"),
+            Command::Height { cm, tenths } => write!(f, "height {cm} cm {tenths}"),
+            Command::Close => write!(f, "close"),
+            Command::End => write!(f, "end"),
+            Command::Small { carbon, count } => write!(f, "small {carbon} mg {count}"),
         }
     }
 }
 
-// The line of what was read at a place. `read_through` counted a command there, so none is passed over.
-fn print_line<W: Write + Drop>(output: Output<W>, at: usize, reading: Reading) -> Output<W> {
-    match reading {
-        Reading::Is(command, _) => {
-            let place = output.number(at as u64).text(b" ");
-            print_command(place, command).text(b"\n")
-        }
-        Reading::Refused(_) => output,
-    }
-}
-
-// So many commands, from the first on.
-fn print_commands<W: Write + Drop>(output: Output<W>, book: &[u8], commands: usize) -> Output<W> {
-    let mut printed = output;
-    let mut at = 0;
+// Each command's line. `read_through` counted so many, so none is passed over.
+fn print_commands<W: Write + Drop>(
+    output: &mut Output<W>,
+    book: &[u8],
+    commands: usize,
+) -> io::Result<()> {
+    let mut reader = BookReader::new(book);
     for _ in 0..commands {
-        let advance = command_at(book, at);
-        let reading = advance.reading;
-        printed = print_line(printed, at, reading);
-        at = advance.at;
+        let at = reader.at;
+        if let Ok((command, _)) = reader.next() {
+            writeln!(output, "{at} {}", Words(command))?;
+        }
     }
-    printed
+    Ok(())
 }
 
-fn print_book<W: Write + Drop>(output: Output<W>, book: &[u8]) -> Output<W> {
-    let extent = read_through(book, 0);
-    let at = extent.at;
-    let why = extent.why;
-    let printed = print_commands(output, book, extent.commands)
-        .named(b"commands ", extent.commands as u64)
-        .named(b" bytes ", at as u64)
-        .text(b"\n");
+fn print_book<W: Write + Drop>(output: &mut Output<W>, book: &[u8]) -> io::Result<()> {
+    let Extent { commands, at, why } = read_through(book, 0);
+    print_commands(output, book, commands)?;
+    writeln!(output, "commands {commands} bytes {at}")?;
     // After the last byte there is no command to refuse.
     if at < book.len() {
-        printed.refusal(why.number(), at)
-    } else {
-        printed
+        let number = why.number();
+        write!(output, "{}", RefusalLine { number, at })?;
     }
+    Ok(())
 }
 
 fn main(rt: HostRuntime) {
-    let mut buffer = input_buffer();
-    let n = read_input(&mut rt.stdin(), &mut buffer);
-    if too_long(&rt, n) {
-        return;
-    }
-    print_book(Output::new(&rt), &buffer[..n]).finish();
+    // A write that fails ends the text, and the status does not tell.
+    let _ = print_of_book(&mut rt.stdin(), Output::new(&rt), print_book);
 }

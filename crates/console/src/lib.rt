@@ -1,27 +1,27 @@
 // What the programs share: a book from standard input, and text to standard output that stops where a write fails.
 #![tactic(auto)]
 
-ghost use Rattle.std.specs.Prelude.{◌≡◌, ◌≤◌, true, false, ltb, ◌++◌, length, take};
-ghost use Rattle.std.specs.Fmt.{decimal};
+ghost use Rattle.std.specs.Prelude.{List, ℕ, ◌≡◌, ◌≤◌, ◌↔◌, ◌<◌, true, false, length, take, codes, Some, IsErr, is_ok, OnOk, IfSome, IfOk};
 ghost use Rattle.std.specs.Io.Buffered.{writer_contents};
 ghost use Rattle.std.specs.Io.KnownBytes.{Keeps, Consumes};
-ghost use Rattle.console.specs.Console.{most_bytes, Prints, printed, refusal_line, writer_of};
+ghost use Rattle.console.specs.Console.{most_bytes, PrintedBy, Prints, printed, refusal_line, writer_of};
 
-use std::io;
-use std::io::{BufWriter, Print, Printer, Read, Write};
+use std::fmt::{Display, Formatter};
+use std::io::{BufWriter, ErrorKind, Print, Printer, Read, Write};
+use std::{fmt, io};
 
 // How many bytes a book has at most.
 const MOST_BYTES: usize = 65_536;
 
-// Room for a byte more than a book may have, so that longer input shows.
+// Room for a byte more than a book may have, so that longer input shows. An array, since a `Vec` could find no memory.
 pub fn input_buffer() -> [u8; 65_537]
     ensures { 65537 ≡ length result }
 {
     [0u8; 65_537]
 }
 
-// Reads the input to its end or until the buffer is full, and answers how many bytes came. A read that fails is the end
-// of the input.
+// Reads the input to its end or until the buffer is full, and answers how many bytes came, as `Read::read` does: the lent
+// buffer then begins with them, which a slice of it could not say. A read that fails is the end of the input.
 pub fn read_input<R: Read>(input: &mut R, buffer: &mut [u8]) -> usize
     ensures within { (result ≤ length buffer.new) × (result ≡ length (take result buffer.new)) }
     ensures bytes { Consumes (R.remaining input.old) (R.remaining input.new) (take result buffer.new) }
@@ -36,23 +36,52 @@ pub fn read_input<R: Read>(input: &mut R, buffer: &mut [u8]) -> usize
     came
 }
 
-// Whether so many bytes are more than a book may have, which is then printed.
-pub fn too_long(rt: &(impl Print + AllocGlobal), n: usize) -> bool
-    ensures { result ≡ ltb most_bytes n }
-{
-    if MOST_BYTES < n {
-        Output::new(rt).text(b"too long\n").finish();
-        return true;
+// Input that is longer than a book may be, and the line that says so.
+#[derive(Clone, Copy)]
+pub struct TooLong;
+
+impl Display for TooLong {
+    ghost output = { λ _. Some (codes "too long\n") };
+
+    fn fmt<W: fmt::Write>(&self, f: &mut Formatter<W>) -> fmt::Result {
+        writeln!(f, "too long")
     }
-    false
 }
 
-// Text on its way to a writer, and whether all of it is out so far or waits in the buffer. Past a write that fails nothing
-// more is written, and the output stays as it is: what comes out is always a beginning of the text, and no number is cut in
-// its middle and gone on with. `finish` ends it: where an output is let go without that, the buffer tries once more to
-// write what waits.
+// The input as a book, where it is not longer than one.
+pub fn book(input: &[u8]) -> Result<&[u8], TooLong>
+    ensures ok { IfOk result (λ b. b ≡ input.entry) }
+    ensures err { IsErr result ↔ (most_bytes < length input.now) }
+{
+    if MOST_BYTES < input.len() {
+        return Err(TooLong);
+    }
+    Ok(input)
+}
+
+// The line of a refusal: its number, and its place.
+#[derive(Clone, Copy)]
+pub struct RefusalLine {
+    pub number: u8,
+    pub at: usize,
+}
+
+impl Display for RefusalLine {
+    ghost output = { λ line. Some (refusal_line line.number line.at) };
+
+    fn fmt<W: fmt::Write>(&self, f: &mut Formatter<W>) -> fmt::Result {
+        let RefusalLine { number, at } = *self;
+        writeln!(f, "refused {number} at {at}")
+    }
+}
+
+// Text on its way to a writer, printed by `write!`. Past a write that fails nothing more is written: what comes out is always
+// a beginning of the text, and no number is cut in its middle and gone on with. `finish` ends it: where an output is let go
+// without that, the buffer tries once more to write what waits.
 #[derive(Drop)]
 pub struct Output<W: Write + Drop> {
+    // Whether all of the text is out so far or waits in the buffer. A flag, and no `Option` of the writer: a failed write
+    // leaves the writer there, to be handed back by `finish`.
     pub good: bool,
     writer: BufWriter<W>,
 }
@@ -78,42 +107,18 @@ impl<W: Write + Drop> Output<W> {
         Output { good: true, writer }
     }
 
-    pub fn text(mut self, bytes: &[u8]) -> Self
-        ensures stays { self.good ≡ false → result ≡ self }
-        ensures written { Prints W.contents self bytes.now result }
+    // Prints a text after all that was printed before.
+    pub fn write_fmt<T: Display + Drop>(&mut self, text: T) -> io::Result<()>
+        ensures stays { self.old.good ≡ false → self.new ≡ self.old }
+        ensures good { self.new.good ≡ is_ok result }
+        ensures written { OnOk result (IfSome (T.output text) (Prints W.contents self.old self.new)) }
     {
-        if self.good {
-            self.good = self.writer.write_all(bytes).is_ok();
+        if !self.good {
+            return Err(ErrorKind::BrokenPipe.into());
         }
-        self
-    }
-
-    pub fn number(mut self, n: u64) -> Self
-        ensures stays { self.good ≡ false → result ≡ self }
-        ensures written { Prints W.contents self (decimal n) result }
-    {
-        if self.good {
-            self.good = write!(self.writer, "{n}").is_ok();
-        }
-        self
-    }
-
-    // A number after the word for it.
-    pub fn named(self, word: &[u8], n: u64) -> Self
-        ensures stays { self.good ≡ false → result ≡ self }
-        ensures written { Prints W.contents self (word.now ++ decimal n) result }
-    {
-        self.text(word).number(n)
-    }
-
-    // The line of a refusal: its number, and its place.
-    pub fn refusal(self, number: u8, at: usize) -> Self
-        ensures stays { self.good ≡ false → result ≡ self }
-        ensures written { Prints W.contents self (refusal_line number at) result }
-    {
-        self.named(b"refused ", number as u64)
-            .named(b" at ", at as u64)
-            .text(b"\n")
+        let printed = self.writer.write_fmt(text);
+        self.good = printed.is_ok();
+        printed
     }
 
     // Writes what waits in the buffer, and answers the writer and whether all that was printed is out.
@@ -129,4 +134,28 @@ impl<W: Write + Drop> Output<W> {
         let (inner, _) = writer.into_parts();
         (inner, good)
     }
+}
+
+// What a program does: reads a book and lends it to `print`, or says that it is too long, and finishes the output.
+pub fn print_of_book<I: Read, W: Write + Drop, F>(
+    input: &mut I,
+    mut output: Output<W>,
+    print: F,
+) -> (W, bool)
+where
+    F: FnOnce(&mut Output<W>, &[u8]) -> io::Result<()>,
+    requires { F.IsAlwaysCallable print }
+    ensures { (bytes : List ℕ) × (last : Output W) × Consumes (I.remaining input.old) (I.remaining input.new) bytes
+        × (length bytes ≤ most_bytes → PrintedBy (F.post print) output bytes last)
+        × (most_bytes < length bytes → last.good ≡ true → Prints W.contents output last (codes "too long\n"))
+        × (result.1 ≡ true → (last.good ≡ true) × Keeps (printed W.contents last) (W.contents result.0)) }
+{
+    let mut buffer = input_buffer();
+    let n = read_input(input, &mut buffer);
+    // Whether a write failed, the output knows.
+    let _ = match book(&buffer[..n]) {
+        Ok(book) => print(&mut output, book),
+        Err(too_long) => write!(output, "{too_long}"),
+    };
+    output.finish()
 }

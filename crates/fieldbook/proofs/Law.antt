@@ -131,10 +131,10 @@ cut_numbers (Species id s) (id_fits, fits) =
       mod-eq_of_lt fits.crown,
       mod-eq_of_lt fits.root,
       mod-eq_of_lt fits.gravity,
-      constant_cut s.c1 fits.c1,
-      constant_cut s.c2 fits.c2,
-      constant_cut s.c3 fits.c3,
-      constant_cut s.c4 fits.c4,
+      constant_cut s.constants.c1 fits.c1,
+      constant_cut s.constants.c2 fits.c2,
+      constant_cut s.constants.c3 fits.c3,
+      constant_cut s.constants.c4 fits.c4,
     )
 cut_numbers (Factor cm factor) fits = rw (mod-eq_of_lt fits.0, mod-eq_of_lt fits.1)
 cut_numbers (Open stratum species p q) (f₁, f₂, f₃, f₄) = rw (mod-eq_of_lt f₁, mod-eq_of_lt f₂, mod-eq_of_lt f₃, mod-eq_of_lt f₄)

@@ -1,9 +1,9 @@
 -- How answers and refusals are laid out for programs in other languages. Every function that refuses anything answers 0 or document 01's number of the refusal
 -- (Law: zero_is_totalled and the like: 0 is told of no refusal). What it found is put into the numbers that the caller lends, and where it is refused they are 0.
-use Rattle.std.specs.Prelude.{ℕ, zero, suc, List, [], ◌∷◌, get_or}
+use Rattle.std.specs.Prelude.{ℕ, zero, suc, List, [], ◌∷◌, get_or, replicate}
 use Rattle.biomass.specs.Report.{Report, refused, gives, ◌then◌}
-use Rattle.biomass.specs.declared.units.BiomassRange.{BiomassRange}
-use Rattle.biomass.specs.declared.units.CarbonRange.{CarbonRange}
+use Rattle.biomass.specs.Units.{BiomassRange, CarbonRange}
+use Rattle.biomass.specs.declared.units.Range.{Range}
 use Rattle.codec.specs.Writing.{write}
 use Rattle.codec.specs.Writing as Writing
 use Rattle.survey.specs.Total.{Answer, refused_at, totalled}
@@ -16,19 +16,25 @@ abbrev pub refusal : {A : Type 0} → Report A → ℕ
 refusal (refused n) = n
 refusal (gives a) = 0
 
+-- what is put into the numbers: those of what is found, and zeros where it is refused
+abbrev pub laid : {A N : Type 0} → (A → N) → N → Report A → N
+laid numbers zeros (refused n) = zeros
+laid numbers zeros (gives a) = numbers a
+
 -- a figure that is one number
 abbrev pub figure : Report ℕ → ℕ
-figure (refused n) = 0
-figure (gives c) = c
+figure = laid (λ c. c) 0
 
--- a low and a high, in milligrams of biomass or in grams of carbon dioxide
+-- a low and a high of masses of one unit
+abbrev pub range_numbers : {U : Type 0} → (U → ℕ) → Range U → List ℕ
+range_numbers mass m = mass m.low ∷ mass m.high ∷ []
+
+-- in milligrams of biomass, or in grams of carbon dioxide
 abbrev pub ends : Report BiomassRange → List ℕ
-ends (refused n) = 0 ∷ 0 ∷ []
-ends (gives m) = m.low.0 ∷ m.high.0 ∷ []
+ends = laid (range_numbers (λ m. m.0)) (0 ∷ 0 ∷ [])
 
 abbrev pub carbon_ends : Report CarbonRange → List ℕ
-carbon_ends (refused n) = 0 ∷ 0 ∷ []
-carbon_ends (gives m) = m.low.0 ∷ m.high.0 ∷ []
+carbon_ends = laid (range_numbers (λ m. m.0)) (0 ∷ 0 ∷ [])
 
 -- totalling: the number of rows, the N of all lines added, the project's low and high; and the place of a refusal
 abbrev pub book_refusal : Answer → ℕ
@@ -54,13 +60,11 @@ abbrev pub row_numbers : Row → List ℕ
 row_numbers r = r.stratum ∷ r.species ∷ r.tariff ∷ r.d ∷ r.trees ∷ r.biomass.low.0 ∷ r.biomass.high.0 ∷ []
 
 abbrev pub found_row : Report Row → List ℕ
-found_row (refused n) = 0 ∷ 0 ∷ 0 ∷ 0 ∷ 0 ∷ 0 ∷ 0 ∷ []
-found_row (gives r) = row_numbers r
+found_row = laid row_numbers (replicate 7 0)
 
 -- a command that was read
 abbrev pub command : Report (Command × ℕ) → List ℕ
-command (refused n) = 0 ∷ 0 ∷ 0 ∷ 0 ∷ 0 ∷ 0 ∷ 0 ∷ 0 ∷ 0 ∷ []
-command (gives r) = numbers r.0
+command = laid (λ r. numbers r.0) (replicate 9 0)
 
 -- writing the command that numbers stand for: the place after it, or the refusal of either
 abbrev pub write_numbers : List ℕ → ℕ → List ℕ → Report ℕ

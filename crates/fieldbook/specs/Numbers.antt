@@ -2,12 +2,10 @@
 -- stand in two's complement, as they do in the book, but of 64 bits: −1 is 2^64 − 1.
 use Rattle.std.specs.Prelude.{ℕ, ◌+◌, ◌%◌, Bool, true, false, cond, ◌&&◌, List, [], ◌∷◌, ltb, eqb, get_or}
 use Rattle.biomass.specs.Report.{Report, refused, gives, unless, ◌then◌}
-use Rattle.codec.specs.Refusal.{number}
 use Rattle.codec.specs.Bytes.{signed, unsigned}
 use Rattle.codec.specs.declared.command.Species as Declared
 use Rattle.codec.specs.declared.command.Command.{Command}
 use Rattle.codec.specs.declared.command.Command.TheVariants.{Species, Factor, Open, Measured, Height, Close, End, Small}
-use Rattle.fieldbook.specs.declared.commands.Converted.{Converted}
 
 -- from 32 bits to 64: the upper half of the one is the uppermost part of the other (Law: natural_wide, negative_wide: so it is two's complement)
 abbrev pub extended : ℕ → ℕ
@@ -16,7 +14,7 @@ extended bits = cond (ltb bits 2147483648) bits (bits + 18446744069414584320)
 abbrev pub numbers : Command → List ℕ
 numbers (Species id s) =
     1 ∷ id ∷ s.crown ∷ s.root ∷ s.gravity
-    ∷ extended (unsigned s.c1) ∷ extended (unsigned s.c2) ∷ extended (unsigned s.c3) ∷ extended (unsigned s.c4) ∷ []
+    ∷ extended (unsigned s.constants.c1) ∷ extended (unsigned s.constants.c2) ∷ extended (unsigned s.constants.c3) ∷ extended (unsigned s.constants.c4) ∷ []
 numbers (Factor cm factor) = 2 ∷ cm ∷ factor ∷ 0 ∷ 0 ∷ 0 ∷ 0 ∷ 0 ∷ 0 ∷ []
 numbers (Open stratum species p q) = 3 ∷ stratum ∷ species ∷ p ∷ q ∷ 0 ∷ 0 ∷ 0 ∷ 0 ∷ []
 numbers (Measured class count) = 4 ∷ class ∷ count ∷ 0 ∷ 0 ∷ 0 ∷ 0 ∷ 0 ∷ 0 ∷ []
@@ -26,11 +24,6 @@ numbers End = 7 ∷ 0 ∷ 0 ∷ 0 ∷ 0 ∷ 0 ∷ 0 ∷ 0 ∷ 0 ∷ []
 numbers (Small carbon count) = 8 ∷ carbon ∷ count ∷ 0 ∷ 0 ∷ 0 ∷ 0 ∷ 0 ∷ 0 ∷ []
 
 -- ---- the command that numbers stand for
-
--- what the code answers
-abbrev pub converted : Converted → Report Command
-converted (Converted.Is c) = gives c
-converted (Converted.Refused why) = refused (number why)
 
 -- what an operand of so many bytes is cut to
 abbrev pub one_byte : List ℕ → ℕ → ℕ
@@ -48,10 +41,12 @@ species_of ns =
       crown = one_byte ns 2;
       root = one_byte ns 3;
       gravity = one_byte ns 4;
-      c1 = signed (four_bytes ns 5);
-      c2 = signed (four_bytes ns 6);
-      c3 = signed (four_bytes ns 7);
-      c4 = signed (four_bytes ns 8);
+      constants = record {
+        c1 = signed (four_bytes ns 5);
+        c2 = signed (four_bytes ns 6);
+        c3 = signed (four_bytes ns 7);
+        c4 = signed (four_bytes ns 8);
+      };
     }
 
 -- the command of that byte, with operands cut to their widths: "2 unknown byte" where there is none

@@ -1,13 +1,15 @@
 // Totalling a book into a sheet, and reading a row of the sheet back.
-ghost use Rattle.std.specs.Prelude.{◌≡◌};
+ghost use Rattle.std.specs.Prelude.{◌≡◌, replicate};
 ghost use Rattle.survey.specs.Sheet.{find_row};
 ghost use Rattle.survey.specs.Total.{total, sheet_after};
 ghost use Rattle.survey.specs.Demand3.{Demanded};
 ghost use Rattle.fieldbook.specs.Layout.{refusal, book_refusal, totals, answered, found_row, row_numbers};
 
+use super::layout::{Laid, lay};
 use line::row::Row;
-use survey::sheet::{Found, find_row};
-use survey::total::{Totalled, total};
+use survey::playing::Stopped;
+use survey::sheet::find_row;
+use survey::total::total;
 
 // Totals a book into a sheet of 800 bytes or more. The answer: rows, trees in hundredths, low and high in grams of carbon
 // dioxide, and the place of a refusal. Where the book is refused, the sheet is as it was.
@@ -19,30 +21,40 @@ pub extern "C" fn fieldbook_total(book: &[u8], sheet: &mut [u8], answer: &mut [u
     ensures demand3 { Demanded book.now (answered result answer.new) }
 {
     match total(book, sheet) {
-        Totalled::Is(t) => {
+        Ok(t) => {
             *answer = [t.rows as u64, t.trees, t.carbon.low.0, t.carbon.high.0, 0];
             0
         }
-        Totalled::Refused { why, at } => {
+        Err(Stopped { why, at }) => {
             *answer = [0, 0, 0, 0, at as u64];
             why.number()
         }
     }
 }
 
-// A row's figures, in the order of its bytes.
-fn row_numbers(row: Row) -> [u64; 7]
-    ensures { result ≡ row_numbers row }
-{
-    [
-        row.stratum as u64,
-        row.species as u64,
-        row.tariff as u64,
-        row.d as u64,
-        row.trees as u64,
-        row.biomass.low.0,
-        row.biomass.high.0,
-    ]
+impl Laid for Row {
+    type Numbers = [u64; 7];
+
+    ghost numbers = { row_numbers };
+
+    ghost zeros = { replicate 7 0 };
+
+    // A row's figures, in the order of its bytes.
+    fn numbers(self) -> [u64; 7] {
+        [
+            self.stratum as u64,
+            self.species as u64,
+            self.tariff as u64,
+            self.d as u64,
+            self.trees as u64,
+            self.biomass.low.0,
+            self.biomass.high.0,
+        ]
+    }
+
+    fn zeros() -> [u64; 7] {
+        [0; 7]
+    }
 }
 
 // The i-th row of a sheet, counted from 0: stratum, species, tariff, mean diameter in tenths of a cm, trees in hundredths,
@@ -52,14 +64,5 @@ pub extern "C" fn fieldbook_sheet_row(sheet: &[u8], i: usize, answer: &mut [u64;
     ensures refusal { result ≡ refusal (find_row sheet.now i) }
     ensures answer { answer.new ≡ found_row (find_row sheet.now i) }
 {
-    match find_row(sheet, i) {
-        Found::Is(found) => {
-            *answer = row_numbers(found);
-            0
-        }
-        Found::Refused(why) => {
-            *answer = [0u64; 7];
-            why.number()
-        }
-    }
+    lay(find_row(sheet, i), answer)
 }

@@ -1,169 +1,217 @@
 // Reading and writing one command. A command passes as nine numbers: its byte, its operands in the order of the book, and 0
 // for each that it does not have. Signed operands are in two's complement, of 64 bits.
-ghost use Rattle.std.specs.Prelude.{◌≡◌, ◌%◌};
+ghost use Rattle.std.specs.Prelude.{◌≡◌, ◌%◌, replicate};
+ghost use Rattle.biomass.specs.Report.{report};
 ghost use Rattle.codec.specs.Bytes.{signed, unsigned};
+ghost use Rattle.codec.specs.Refusal.{number};
+ghost use Rattle.codec.specs.Kind.{kind_of};
 ghost use Rattle.codec.specs.Reading.{read, place_after};
-ghost use Rattle.fieldbook.specs.Numbers.{extended, numbers, species_of, cut, converted, same, command_of};
+ghost use Rattle.fieldbook.specs.Numbers.{extended, numbers, species_of, cut, command_of};
 ghost use Rattle.fieldbook.specs.Layout.{refusal, command, write_numbers, next_place, buffer_after};
 
-use codec::bytes::{bits_of, signed_of};
-use codec::command::{Command, Species};
-use codec::reading::Reading;
+use super::layout::{Laid, lay};
+use biomass::tariff::Constants;
+use codec::command::{Command, Kind, Species};
+use codec::reading::{place_after, read};
 use codec::refusal::Refusal;
-use codec::writing::{Written, write};
-use survey::reader::command_at;
+use codec::writing::write;
 
-// The command that numbers stand for, or why there is none.
-#[derive(Clone, Copy)]
-enum Converted {
-    Is(Command),
-    Refused(Refusal),
-}
+// The nine numbers of a command.
+#[derive(Clone, Copy, PartialEq, Eq)]
+struct Numbers([u64; 9]);
 
 // A signed number, in two's complement of 64 bits.
 fn wide(x: i32) -> u64
     ensures { result ≡ extended (unsigned x) }
 {
-    let bits = bits_of(x) as u64;
-    if bits < 0x8000_0000 {
-        bits
-    } else {
-        bits + 0xffff_ffff_0000_0000
-    }
+    i64::from(x).cast_unsigned()
 }
 
 // The signed number in the low 32 bits.
 fn narrow(x: u64) -> i32
     ensures { result ≡ signed (x % 4294967296) }
 {
-    signed_of((x % 4_294_967_296) as u32)
+    ((x % 4_294_967_296) as u32).cast_signed()
 }
 
-fn species_numbers(id: u8, s: Species) -> [u64; 9]
-    ensures { result ≡ numbers (Command.Species id s) }
+// The kind of command whose byte this is.
+fn kind(byte: u64) -> Result<Kind, Refusal>
+    ensures { report number result ≡ kind_of byte }
 {
-    [
-        1,
-        id as u64,
-        s.crown as u64,
-        s.root as u64,
-        s.gravity as u64,
-        wide(s.c1),
-        wide(s.c2),
-        wide(s.c3),
-        wide(s.c4),
-    ]
+    Kind::try_from(u8::try_from(byte).map_err(|_| Refusal::UnknownByte)?)
 }
 
-fn numbers_of(command: Command) -> [u64; 9]
-    ensures { result ≡ numbers command }
-{
-    match command {
-        Command::Species(id, s) => species_numbers(id, s),
-        Command::Factor { cm, factor } => [2, cm as u64, factor as u64, 0, 0, 0, 0, 0, 0],
-        Command::Open {
-            stratum,
-            species,
-            p,
-            q,
-        } => [
-            3,
-            stratum as u64,
-            species as u64,
-            p as u64,
-            q as u64,
-            0,
-            0,
-            0,
-            0,
-        ],
-        Command::Measured { class, count } => [4, class as u64, count as u64, 0, 0, 0, 0, 0, 0],
-        Command::Height { cm, tenths } => [5, cm as u64, tenths as u64, 0, 0, 0, 0, 0, 0],
-        Command::Close => [6, 0, 0, 0, 0, 0, 0, 0, 0],
-        Command::End => [7, 0, 0, 0, 0, 0, 0, 0, 0],
-        Command::Small { carbon, count } => [8, carbon as u64, count as u64, 0, 0, 0, 0, 0, 0],
+impl From<Command> for Numbers {
+    ghost from_gives = { λ command n. n.0 ≡ numbers command };
+
+    fn from(command: Command) -> Numbers {
+        Numbers(match command {
+            Command::Species(id, s) => [
+                Kind::Species as u64,
+                id as u64,
+                s.crown as u64,
+                s.root as u64,
+                s.gravity as u64,
+                wide(s.constants.c1),
+                wide(s.constants.c2),
+                wide(s.constants.c3),
+                wide(s.constants.c4),
+            ],
+            Command::Factor { cm, factor } => [
+                Kind::Factor as u64,
+                cm as u64,
+                factor as u64,
+                0,
+                0,
+                0,
+                0,
+                0,
+                0,
+            ],
+            Command::Open {
+                stratum,
+                species,
+                p,
+                q,
+            } => [
+                Kind::Open as u64,
+                stratum as u64,
+                species as u64,
+                p as u64,
+                q as u64,
+                0,
+                0,
+                0,
+                0,
+            ],
+            Command::Measured { class, count } => [
+                Kind::Measured as u64,
+                class as u64,
+                count as u64,
+                0,
+                0,
+                0,
+                0,
+                0,
+                0,
+            ],
+            Command::Height { cm, tenths } => [
+                Kind::Height as u64,
+                cm as u64,
+                tenths as u64,
+                0,
+                0,
+                0,
+                0,
+                0,
+                0,
+            ],
+            Command::Close => [Kind::Close as u64, 0, 0, 0, 0, 0, 0, 0, 0],
+            Command::End => [Kind::End as u64, 0, 0, 0, 0, 0, 0, 0, 0],
+            Command::Small { carbon, count } => [
+                Kind::Small as u64,
+                carbon as u64,
+                count as u64,
+                0,
+                0,
+                0,
+                0,
+                0,
+                0,
+            ],
+        })
     }
 }
 
-fn species_of(n: [u64; 9]) -> Species
-    ensures { result ≡ species_of n }
-{
-    Species {
-        crown: (n[2] % 256) as u8,
-        root: (n[3] % 256) as u8,
-        gravity: (n[4] % 256) as u8,
-        c1: narrow(n[5]),
-        c2: narrow(n[6]),
-        c3: narrow(n[7]),
-        c4: narrow(n[8]),
-    }
-}
-
-// The command of that byte, with its operands cut to their widths.
-#[tactic(auto, unfolding(crate::specs::Numbers::cut))]
-fn cut(n: [u64; 9]) -> Converted
-    ensures { converted result ≡ cut n }
-{
-    let first = (n[1] % 256) as u8;
-    let second = (n[2] % 256) as u8;
-    let pair = (n[2] % 65_536) as u16;
-    let carbon = (n[1] % 4_294_967_296) as u32;
-    let count = (n[2] % 4_294_967_296) as u32;
-    let p = (n[3] % 4_294_967_296) as u32;
-    let q = (n[4] % 4_294_967_296) as u32;
-    match n[0] {
-        1 => Converted::Is(Command::Species(first, species_of(n))),
-        2 => Converted::Is(Command::Factor {
-            cm: first,
-            factor: second,
-        }),
-        3 => Converted::Is(Command::Open {
-            stratum: first,
-            species: second,
-            p,
-            q,
-        }),
-        4 => Converted::Is(Command::Measured {
-            class: first,
-            count: pair,
-        }),
-        5 => Converted::Is(Command::Height {
-            cm: first,
-            tenths: pair,
-        }),
-        6 => Converted::Is(Command::Close),
-        7 => Converted::Is(Command::End),
-        8 => Converted::Is(Command::Small { carbon, count }),
-        _ => Converted::Refused(Refusal::UnknownByte),
-    }
-}
-
-// Whether the numbers are the same.
-fn same(a: [u64; 9], b: [u64; 9]) -> bool
-    ensures { result ≡ same a b }
-{
-    let mut i: usize = 0;
-    while i < 9 {
-        if a[i] != b[i] {
-            return false;
+impl Numbers {
+    fn species(self) -> Species
+        ensures { result ≡ species_of self.0 }
+    {
+        let n = self.0;
+        Species {
+            crown: (n[2] % 256) as u8,
+            root: (n[3] % 256) as u8,
+            gravity: (n[4] % 256) as u8,
+            constants: Constants {
+                c1: narrow(n[5]),
+                c2: narrow(n[6]),
+                c3: narrow(n[7]),
+                c4: narrow(n[8]),
+            },
         }
-        i += 1;
     }
-    true
+
+    // The command of that byte, with its operands cut to their widths.
+    #[tactic(auto, unfolding(crate::specs::Numbers::cut))]
+    fn cut(self) -> Result<Command, Refusal>
+        ensures { report number result ≡ cut self.0 }
+    {
+        let n = self.0;
+        let first = (n[1] % 256) as u8;
+        let second = (n[2] % 256) as u8;
+        let pair = (n[2] % 65_536) as u16;
+        let carbon = (n[1] % 4_294_967_296) as u32;
+        let count = (n[2] % 4_294_967_296) as u32;
+        let p = (n[3] % 4_294_967_296) as u32;
+        let q = (n[4] % 4_294_967_296) as u32;
+        match kind(n[0])? {
+            Kind::Species => Ok(Command::Species(first, self.species())),
+            Kind::Factor => Ok(Command::Factor {
+                cm: first,
+                factor: second,
+            }),
+            Kind::Open => Ok(Command::Open {
+                stratum: first,
+                species: second,
+                p,
+                q,
+            }),
+            Kind::Measured => Ok(Command::Measured {
+                class: first,
+                count: pair,
+            }),
+            Kind::Height => Ok(Command::Height {
+                cm: first,
+                tenths: pair,
+            }),
+            Kind::Close => Ok(Command::Close),
+            Kind::End => Ok(Command::End),
+            Kind::Small => Ok(Command::Small { carbon, count }),
+        }
+    }
 }
 
 // The command whose numbers these are.
-#[tactic(auto, unfolding(crate::specs::Numbers::command_of))]
-fn command_of(n: [u64; 9]) -> Converted
-    ensures { converted result ≡ command_of n }
-{
-    match cut(n) {
-        Converted::Is(command) => if same(numbers_of(command), n) {
-            Converted::Is(command)
+impl TryFrom<Numbers> for Command {
+    type Error = Refusal;
+
+    ghost try_from_gives = { λ n outcome. report number outcome ≡ command_of n.0 };
+
+    #[tactic(auto, unfolding(crate::specs::Numbers::command_of))]
+    fn try_from(n: Numbers) -> Result<Command, Refusal> {
+        let command = n.cut()?;
+        if Numbers::from(command) == n {
+            Ok(command)
         } else {
-            Converted::Refused(Refusal::Operand)
-        },
-        Converted::Refused(why) => Converted::Refused(why),
+            Err(Refusal::Operand)
+        }
+    }
+}
+
+// A command that was read. The place after it is answered beside it.
+impl Laid for (Command, usize) {
+    type Numbers = [u64; 9];
+
+    ghost numbers = { λ read. numbers read.0 };
+
+    ghost zeros = { replicate 9 0 };
+
+    fn numbers(self) -> [u64; 9] {
+        Numbers::from(self.0).0
+    }
+
+    fn zeros() -> [u64; 9] {
+        [0; 9]
     }
 }
 
@@ -179,19 +227,18 @@ pub extern "C" fn fieldbook_read(
     ensures answer { answer.new ≡ command (read book.now at) }
     ensures next { next.new ≡ place_after at (read book.now at) }
 {
-    let advance = command_at(book, at);
-    *next = advance.at;
-    let reading = advance.reading;
-    match reading {
-        Reading::Is(command, _) => {
-            *answer = numbers_of(command);
-            0
-        }
-        Reading::Refused(why) => {
-            *answer = [0u64; 9];
-            why.number()
-        }
-    }
+    let found = read(book, at);
+    *next = place_after(at, found);
+    lay(found, answer)
+}
+
+// The place after the command that numbers stand for, written from a place on.
+fn write_numbers(buffer: &mut [u8], at: usize, numbers: [u64; 9]) -> Result<usize, Refusal>
+    ensures place { report number result ≡ write_numbers buffer.old at numbers }
+    ensures stored { buffer.new ≡ buffer_after buffer.old at (command_of numbers) }
+{
+    let command = Command::try_from(Numbers(numbers))?;
+    write(buffer, at, command)
 }
 
 // Writes the command that numbers stand for from a place on. Where it is refused, nothing is written.
@@ -206,18 +253,12 @@ pub extern "C" fn fieldbook_write(
     ensures stored { buffer.new ≡ buffer_after buffer.old at (command_of command.now) }
     ensures next { next.new ≡ next_place at (write_numbers buffer.old at command.now) }
 {
-    match command_of(*command) {
-        Converted::Is(converted) => match write(buffer, at, converted) {
-            Written::Next(after) => {
-                *next = after;
-                0
-            }
-            Written::Refused(why) => {
-                *next = at;
-                why.number()
-            }
-        },
-        Converted::Refused(why) => {
+    match write_numbers(buffer, at, *command) {
+        Ok(after) => {
+            *next = after;
+            0
+        }
+        Err(why) => {
             *next = at;
             why.number()
         }

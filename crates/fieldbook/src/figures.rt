@@ -1,6 +1,6 @@
 // The figures of the crate `biomass`.
-ghost use Rattle.std.specs.Prelude.{◌≡◌};
-ghost use Rattle.biomass.specs.Report.{count, biomass, carbon};
+ghost use Rattle.std.specs.Prelude.{◌≡◌, ℕ, [], ◌∷◌};
+ghost use Rattle.biomass.specs.Report.{report, refusal_number};
 ghost use Rattle.biomass.specs.Ends.{between};
 ghost use Rattle.biomass.specs.Tariff.{single_tariff, line_tariff};
 ghost use Rattle.biomass.specs.Mean.{mean};
@@ -12,67 +12,84 @@ ghost use Rattle.biomass.specs.Tree.{tree, row_biomass, average_tree};
 ghost use Rattle.biomass.specs.SmallTrees.{small_trees};
 ghost use Rattle.biomass.specs.SquareRoot.{square_root};
 ghost use Rattle.biomass.specs.Project.{project};
-ghost use Rattle.fieldbook.specs.Layout.{refusal, figure, ends, carbon_ends};
+ghost use Rattle.fieldbook.specs.Layout.{refusal, laid, figure, range_numbers, ends, carbon_ends};
 
+use super::layout::{Laid, lay};
 use biomass::crown::crown;
 use biomass::mean::mean;
 use biomass::project::project;
-use biomass::report::{Biomass, Carbon, Count};
 use biomass::root::root;
 use biomass::small_trees::small_trees;
 use biomass::square_root::square_root;
 use biomass::stem::stem;
-use biomass::tariff::{line_tariff, single_tariff};
+use biomass::tariff::{Constants, line_tariff, single_tariff};
 use biomass::tree::{AverageTree, row_biomass, tree};
 use biomass::trees::trees;
-use biomass::units::{BiomassRange, Milligrams};
+use biomass::units::{BiomassRange, Grams, Milligrams, Range};
+use codec::refusal::Refusal;
 
-fn lay_count(given: Count, answer: &mut u64) -> u8
-    ensures refusal { result ≡ refusal (count given) }
-    ensures answer { answer.new ≡ figure (count given) }
-{
-    match given {
-        Count::Is(n) => {
-            *answer = n;
-            0
-        }
-        Count::Refused(why) => {
-            *answer = 0;
-            why.number()
-        }
+impl Laid for u64 {
+    type Numbers = u64;
+
+    ghost numbers = { λ c. c };
+
+    ghost zeros = { 0 };
+
+    fn numbers(self) -> u64 {
+        self
+    }
+
+    fn zeros() -> u64 {
+        0
     }
 }
 
-fn store_biomass(given: Biomass, answer: &mut [u64; 2]) -> u8
-    ensures refusal { result ≡ refusal (biomass given) }
-    ensures answer { answer.new ≡ ends (biomass given) }
-{
-    match given {
-        Biomass::Is(m) => {
-            *answer = [m.low.0, m.high.0];
-            0
-        }
-        Biomass::Refused(why) => {
-            *answer = [0, 0];
-            why.number()
-        }
+// A mass in its unit, which the two ends of a range have in common.
+trait Mass {
+    ghost mass: { Self → ℕ };
+
+    fn mass(self) -> u64
+        ensures { result ≡ mass self };
+}
+
+impl Mass for Milligrams {
+    ghost mass = { λ m. m.0 };
+
+    fn mass(self) -> u64 {
+        self.0
     }
 }
 
-fn store_carbon(given: Carbon, answer: &mut [u64; 2]) -> u8
-    ensures refusal { result ≡ refusal (carbon given) }
-    ensures answer { answer.new ≡ carbon_ends (carbon given) }
-{
-    match given {
-        Carbon::Is(m) => {
-            *answer = [m.low.0, m.high.0];
-            0
-        }
-        Carbon::Refused(why) => {
-            *answer = [0, 0];
-            why.number()
-        }
+impl Mass for Grams {
+    ghost mass = { λ m. m.0 };
+
+    fn mass(self) -> u64 {
+        self.0
     }
+}
+
+impl<U: Mass> Laid for Range<U> {
+    type Numbers = [u64; 2];
+
+    ghost numbers = { range_numbers U.mass };
+
+    ghost zeros = { 0 ∷ 0 ∷ [] };
+
+    fn numbers(self) -> [u64; 2] {
+        [self.low.mass(), self.high.mass()]
+    }
+
+    fn zeros() -> [u64; 2] {
+        [0; 2]
+    }
+}
+
+// A figure, with its refusals among the survey's.
+fn lay_figure<A: Laid>(figure: Result<A, biomass::report::Refusal>, answer: &mut A::Numbers) -> u8
+    ensures refusal { result ≡ refusal (report refusal_number figure) }
+    ensures answer { answer.new ≡ laid A.numbers A.zeros (report refusal_number figure) }
+{
+    lay(figure.map_err(Refusal::from), answer)
 }
 
 // The five single figures of document 01.
@@ -90,7 +107,8 @@ pub extern "C" fn fieldbook_single_tariff(
     ensures refusal { result ≡ refusal (single_tariff c1 c2 c3 c4 cm tenths) }
     ensures answer { answer.new ≡ figure (single_tariff c1 c2 c3 c4 cm tenths) }
 {
-    lay_count(single_tariff(c1, c2, c3, c4, cm, tenths), answer)
+    let constants = Constants { c1, c2, c3, c4 };
+    lay_figure(single_tariff(constants, cm, tenths), answer)
 }
 
 #[unsafe(no_mangle)]
@@ -98,7 +116,7 @@ pub extern "C" fn fieldbook_mean(n: u64, squares: u64, answer: &mut u64) -> u8
     ensures refusal { result ≡ refusal (mean n squares) }
     ensures answer { answer.new ≡ figure (mean n squares) }
 {
-    lay_count(mean(n, squares), answer)
+    lay_figure(mean(n, squares), answer)
 }
 
 #[unsafe(no_mangle)]
@@ -112,7 +130,7 @@ pub extern "C" fn fieldbook_stem(
     ensures refusal { result ≡ refusal (stem tariff d factor gravity) }
     ensures answer { answer.new ≡ ends (stem tariff d factor gravity) }
 {
-    store_biomass(stem(tariff, d, factor, gravity), answer)
+    lay_figure(stem(tariff, d, factor, gravity), answer)
 }
 
 #[unsafe(no_mangle)]
@@ -120,7 +138,7 @@ pub extern "C" fn fieldbook_crown(group: u64, d: u64, answer: &mut [u64; 2]) -> 
     ensures refusal { result ≡ refusal (crown group d) }
     ensures answer { answer.new ≡ ends (crown group d) }
 {
-    store_biomass(crown(group, d), answer)
+    lay_figure(crown(group, d), answer)
 }
 
 #[unsafe(no_mangle)]
@@ -128,7 +146,7 @@ pub extern "C" fn fieldbook_root(group: u64, d: u64, answer: &mut [u64; 2]) -> u
     ensures refusal { result ≡ refusal (root group d) }
     ensures answer { answer.new ≡ ends (root group d) }
 {
-    store_biomass(root(group, d), answer)
+    lay_figure(root(group, d), answer)
 }
 
 // The steps between them.
@@ -138,7 +156,7 @@ pub extern "C" fn fieldbook_line_tariff(sum: u64, number: u64, answer: &mut u64)
     ensures refusal { result ≡ refusal (line_tariff sum number) }
     ensures answer { answer.new ≡ figure (line_tariff sum number) }
 {
-    lay_count(line_tariff(sum, number), answer)
+    lay_figure(line_tariff(sum, number), answer)
 }
 
 #[unsafe(no_mangle)]
@@ -146,7 +164,7 @@ pub extern "C" fn fieldbook_trees(n: u64, p: u64, q: u64, answer: &mut u64) -> u
     ensures refusal { result ≡ refusal (trees n p q) }
     ensures answer { answer.new ≡ figure (trees n p q) }
 {
-    lay_count(trees(n, p, q), answer)
+    lay_figure(trees(n, p, q), answer)
 }
 
 fn average_tree(
@@ -182,7 +200,7 @@ pub extern "C" fn fieldbook_tree(
     ensures refusal { result ≡ refusal (tree (average_tree tariff d factor gravity crown root)) }
     ensures answer { answer.new ≡ ends (tree (average_tree tariff d factor gravity crown root)) }
 {
-    store_biomass(
+    lay_figure(
         tree(average_tree(tariff, d, factor, gravity, crown, root)),
         answer,
     )
@@ -202,7 +220,7 @@ pub extern "C" fn fieldbook_row(
     ensures refusal { result ≡ refusal (row_biomass trees (average_tree tariff d factor gravity crown root)) }
     ensures answer { answer.new ≡ ends (row_biomass trees (average_tree tariff d factor gravity crown root)) }
 {
-    store_biomass(
+    lay_figure(
         row_biomass(trees, average_tree(tariff, d, factor, gravity, crown, root)),
         answer,
     )
@@ -214,7 +232,7 @@ pub extern "C" fn fieldbook_small_trees(number: u64, carbon: u64, answer: &mut [
     ensures refusal { result ≡ refusal (small_trees number carbon) }
     ensures answer { answer.new ≡ ends (small_trees number carbon) }
 {
-    store_biomass(small_trees(number, carbon), answer)
+    lay_figure(small_trees(number, carbon), answer)
 }
 
 #[unsafe(no_mangle)]
@@ -226,7 +244,7 @@ pub extern "C" fn fieldbook_project(low: u64, high: u64, trees: u64, answer: &mu
         low: Milligrams(low),
         high: Milligrams(high),
     };
-    store_carbon(project(sums, trees), answer)
+    lay_figure(project(sums, trees), answer)
 }
 
 // The search that the root figure takes its power by, which document 02 has as a routine of its own. It refuses nothing.

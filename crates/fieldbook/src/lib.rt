@@ -6,3 +6,4 @@
 mod books;
 mod commands;
 mod figures;
+mod layout;

@@ -1,8 +1,8 @@
 -- What the code does of any line at all, also of one that no book reaches: the papers' text, and besides a check wherever a number could otherwise be
--- outside what the next figure is worked from. No promise about a whole book is stated over this (survey/specs/Apply.antt).
-use Rattle.std.specs.Prelude.{ℕ, ◌+◌, ◌*◌, cond, List, leb, eqb}
+-- outside what the next figure is worked from. No promise about a whole book is stated over this (rules/specs/Apply.antt).
+use Rattle.std.specs.Prelude.{ℕ, ◌+◌, ◌*◌, cond, List, Option, leb, eqb}
 use Rattle.biomass.specs.Whole.{inside}
-use Rattle.biomass.specs.Report.{Report, refused, gives, unless, ◌then◌, when}
+use Rattle.biomass.specs.Report.{Report, gives, given, unless, ◌then◌, when}
 use Rattle.biomass.specs.Limits.{most_measured, most_heights, most_estimated}
 use Rattle.biomass.specs.Tariff.{line_tariff}
 use Rattle.biomass.specs.Mean.{mean}
@@ -10,27 +10,10 @@ use Rattle.biomass.specs.Trees.{trees}
 use Rattle.biomass.specs.Ends.{between}
 use Rattle.biomass.specs.Tree.{row_biomass}
 use Rattle.biomass.specs.SmallTrees.{small_trees}
-use Rattle.biomass.specs.declared.units.BiomassRange.{BiomassRange}
-use Rattle.codec.specs.Refusal.{number}
+use Rattle.biomass.specs.Units.{BiomassRange}
 use Rattle.line.specs.Line.{with_trees, with_height, tariff_of, factor_for, tree_with, gaining, row_with}
 use Rattle.line.specs.declared.row.Row.{Row}
 use Rattle.line.specs.declared.line.Line.{Line}
-use Rattle.line.specs.declared.line.Updated.{Updated}
-use Rattle.line.specs.declared.line.Estimated.{Estimated}
-use Rattle.line.specs.declared.line.Scaled.{Scaled}
-
--- what the code answers
-abbrev pub updated : Updated → Report Line
-updated (Updated.Is l) = gives l
-updated (Updated.Refused why) = refused (number why)
-
-abbrev pub estimated : Estimated → Report Row
-estimated (Estimated.Is r) = gives r
-estimated (Estimated.Refused why) = refused (number why)
-
-abbrev pub scaling : Scaled → Report ℕ
-scaling (Scaled.Is n) = gives n
-scaling (Scaled.Refused why) = refused (number why)
 
 -- what S and the tariffs added come to at most: of the most trees, each of 100 cm, and of the most height trees, each of tariff 50
 abbrev pub most_squares : ℕ
@@ -76,20 +59,20 @@ unfoldable pub worked : Line → ℕ → ℕ → ℕ → ℕ → ℕ → Report 
 worked l T d f N number = row_biomass N (tree_with l.species T d f) then λ m. row_gaining l T d (N + number) m number
 
 -- closing, where there are measured trees and height trees: d, N and T are worked by steps 2, 3 and 1, and what one of them declines (6), closing declines
-abbrev pub some_row : List ℕ → Line → Report Row
+abbrev pub some_row : List (Option ℕ) → Line → Report Row
 some_row factors l =
     mean l.tally.n l.tally.squares then λ d.
-    when (eqb (factor_for factors d) 0) 14
-    (scaled l.tally.n l.p l.q then λ N.
+    given (factor_for factors d) 14 then λ f.
+    scaled l.tally.n l.p l.q then λ N.
     scaled l.small.count l.p l.q then λ number.
     line_tariff l.heights.tariffs l.heights.number then λ T.
-    worked l T d (factor_for factors d) N number)
+    worked l T d f N number
 
 -- and where there are no measured trees
 abbrev pub small_row : Line → Report Row
 small_row l = scaled l.small.count l.p l.q then λ number. row_gaining l 0 0 number (between 0 0) number
 
-unfoldable pub line_row : List ℕ → Line → Report Row
+unfoldable pub line_row : List (Option ℕ) → Line → Report Row
 line_row factors l =
     cond (eqb l.tally.n 0) (small_row l)
     (when (eqb l.heights.number 0) 12

@@ -3,7 +3,7 @@
 use Rattle.std.specs.Prelude.{ℕ, ◌+◌, ◌*◌, ◌≤◌, ◌≡◌}
 use Rattle.biomass.specs.Limits.{most_estimated}
 use Rattle.biomass.specs.Bounds.{greatest_row, greatest_small}
-use Rattle.biomass.specs.declared.units.BiomassRange.{BiomassRange}
+use Rattle.biomass.specs.Units.{BiomassRange}
 
 -- the high of the greatest row of measured trees and of the greatest number of the greatest small tree, in mg; and how many trees there are at most
 abbrev pub greatest_line : ℕ

@@ -1,6 +1,6 @@
 -- A line: what is noted of it while it is open, what that comes to, and the row that it leaves. "n is the line's measured count, S the sum of count times
 -- class squared."
-use Rattle.std.specs.Prelude.{ℕ, ◌+◌, ◌*◌, ◌/◌, List, get_or, ltb}
+use Rattle.std.specs.Prelude.{ℕ, ◌+◌, ◌*◌, ◌/◌, List, get_or, Option, None, ltb}
 use Rattle.biomass.specs.Whole.{inside}
 use Rattle.biomass.specs.Report.{Report, gives, unless, when}
 use Rattle.biomass.specs.Limits.{most_small, greatest_carbon}
@@ -11,7 +11,7 @@ use Rattle.biomass.specs.Trees.{trees_of}
 use Rattle.biomass.specs.Ends.{between}
 use Rattle.biomass.specs.Tree.{average_tree, tree_of, row_of}
 use Rattle.biomass.specs.SmallTrees.{small_of}
-use Rattle.biomass.specs.declared.units.BiomassRange.{BiomassRange}
+use Rattle.biomass.specs.Units.{BiomassRange}
 use Rattle.biomass.specs.declared.tree.AverageTree.{AverageTree}
 use Rattle.codec.specs.declared.command.Species.{Species}
 use Rattle.line.specs.declared.row.Row.{Row}
@@ -76,7 +76,7 @@ add_small carbon count l =
 
 -- the single tariff (step 1) of a tree of the line's species; 6, then 13
 abbrev pub tariff_of : Species → ℕ → ℕ → Report ℕ
-tariff_of s cm tenths = single_tariff s.c1 s.c2 s.c3 s.c4 cm tenths
+tariff_of s cm tenths = single_tariff s.constants.c1 s.constants.c2 s.constants.c3 s.constants.c4 cm tenths
 
 -- ---- what that comes to: T, d and N of steps 1 to 3, and the number of small trees
 
@@ -93,15 +93,15 @@ N_of l = trees_of l.tally.n l.p l.q
 abbrev pub small_number_of : Line → ℕ
 small_number_of l = trees_of l.small.count l.p l.q
 
--- the factor at a whole cm; 0: none was given
-abbrev pub factor_at : List ℕ → ℕ → ℕ
-factor_at factors cm = get_or factors cm 0
+-- the factor at a whole cm, where one was given
+abbrev pub factor_at : List (Option ℕ) → ℕ → Option ℕ
+factor_at factors cm = get_or factors cm None
 
 -- "the factor at d div 10 cm"
 abbrev pub whole_cm : ℕ → ℕ
 whole_cm d = d / units_to_cm
 
-abbrev pub factor_for : List ℕ → ℕ → ℕ
+abbrev pub factor_for : List (Option ℕ) → ℕ → Option ℕ
 factor_for factors d = factor_at factors (whole_cm d)
 
 -- "With f the factor at d div 10 cm and s the gravity": one tree of a line

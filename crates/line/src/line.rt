@@ -1,17 +1,17 @@
 // A line: what is noted of it while it is open, and the row that it leaves.
 ghost use Rattle.std.specs.Prelude.{◌≡◌, ◌≤◌};
-ghost use Rattle.biomass.specs.Report.{count};
+ghost use Rattle.biomass.specs.Report.{report, refusal_number, after, leaves};
+ghost use Rattle.codec.specs.Refusal.{number};
 ghost use Rattle.biomass.specs.Ends.{between};
 ghost use Rattle.powers.specs.Diameter.{least_d, greatest_d};
 ghost use Rattle.biomass.specs.Limits.{most_estimated};
 ghost use Rattle.biomass.specs.Bounds.{Inside, greatest_row};
 ghost use Rattle.line.specs.Line.{new_line, tariff_of, add_small, row_with, empty_row};
-ghost use Rattle.line.specs.AnyLine.{updated, estimated, scaling, add_trees, add_height, scaled, row_gaining, worked, some_row, small_row, line_row};
+ghost use Rattle.line.specs.AnyLine.{add_trees, add_height, scaled, row_gaining, worked, some_row, small_row, line_row};
 
 use super::row::Row;
 use biomass::limits::{GREATEST_CARBON, MOST_ESTIMATED, MOST_HEIGHTS, MOST_MEASURED, MOST_SMALL};
 use biomass::mean::mean;
-use biomass::report::{Biomass, Count};
 use biomass::small_trees::small_trees;
 use biomass::tariff::{line_tariff, single_tariff};
 use biomass::tree::{AverageTree, row_biomass};
@@ -19,7 +19,7 @@ use biomass::trees::trees;
 use biomass::units::{BiomassRange, Milligrams};
 use biomass::whole::within;
 use codec::command::Species;
-use codec::refusal::{Refusal, of_figure};
+use codec::refusal::Refusal;
 use powers::diameter::UNITS_TO_CM;
 
 // What the squares of a line add up to at most: no class is above 100 cm.
@@ -62,32 +62,11 @@ pub struct Line {
     pub small: SmallTrees,
 }
 
-// The line with one command more, or why not.
-#[derive(Clone, Copy)]
-pub enum Updated {
-    Is(Line),
-    Refused(Refusal),
-}
-
-// The row of a line, or why it does not close.
-#[derive(Clone, Copy)]
-pub enum Estimated {
-    Is(Row),
-    Refused(Refusal),
-}
-
-// How many trees are estimated, in hundredths, or why a line with so many does not close.
-#[derive(Clone, Copy)]
-enum Scaled {
-    Is(u64),
-    Refused(Refusal),
-}
-
 // The single tariff of a tree of a species.
-fn tariff_of(s: Species, cm: u8, tenths: u16) -> Count
-    ensures { count result ≡ tariff_of s cm tenths }
+fn tariff_of(s: Species, cm: u8, tenths: u16) -> Result<u64, biomass::report::Refusal>
+    ensures { report refusal_number result ≡ tariff_of s cm tenths }
 {
-    single_tariff(s.c1, s.c2, s.c3, s.c4, cm as u64, tenths as u64)
+    single_tariff(s.constants, cm as u64, tenths as u64)
 }
 
 // The biomass of no tree.
@@ -101,17 +80,14 @@ fn no_biomass() -> BiomassRange
 }
 
 // Step 3, and whether the line may have so many.
-fn scale(n: u64, p: u32, q: u32) -> Scaled
-    ensures { scaling result ≡ scaled n p q }
+fn scale(n: u64, p: u32, q: u32) -> Result<u64, Refusal>
+    ensures { report number result ≡ scaled n p q }
 {
-    let number = match trees(n, p as u64, q as u64) {
-        Count::Is(number) => number,
-        Count::Refused(why) => return Scaled::Refused(of_figure(why)),
-    };
+    let number = trees(n, p as u64, q as u64)?;
     if MOST_ESTIMATED < number {
-        return Scaled::Refused(Refusal::TooManyTrees);
+        return Err(Refusal::TooManyTrees);
     }
-    Scaled::Is(number)
+    Ok(number)
 }
 
 impl Line {
@@ -142,77 +118,67 @@ impl Line {
 
     // So many trees of a class more.
     #[tactic(auto, unfolding(crate::specs::AnyLine::add_trees))]
-    pub fn add_trees(self, class: u8, count: u16) -> Updated
-        ensures { updated result ≡ add_trees class count self }
+    pub fn add_trees(&mut self, class: u8, count: u16) -> Result<(), Refusal>
+        ensures { after number result self.new ≡ leaves self.old (add_trees class count self.old) }
     {
         let cm = class as u64;
         let trees = count as u64;
         if !within(7, cm, 100) {
-            return Updated::Refused(Refusal::Operand);
+            return Err(Refusal::Operand);
         }
         if trees < 1 {
-            return Updated::Refused(Refusal::Operand);
+            return Err(Refusal::Operand);
         }
         if MOST_MEASURED - trees < self.tally.n {
-            return Updated::Refused(Refusal::Limit);
+            return Err(Refusal::Limit);
         }
         // No survey reaches a line of which this is true.
         if MOST_SQUARES < self.tally.squares {
-            return Updated::Refused(Refusal::Operand);
+            return Err(Refusal::Operand);
         }
-        let n = self.tally.n + trees;
-        let squares = self.tally.squares + trees * (cm * cm);
-        let tally = Tally { n, squares };
-        let mut line = self;
-        line.tally = tally;
-        Updated::Is(line)
+        self.tally.n += trees;
+        self.tally.squares += trees * (cm * cm);
+        Ok(())
     }
 
     // One height tree more.
     #[tactic(auto, unfolding(crate::specs::AnyLine::add_height))]
-    pub fn add_height(self, cm: u8, tenths: u16) -> Updated
-        ensures { updated result ≡ add_height cm tenths self }
+    pub fn add_height(&mut self, cm: u8, tenths: u16) -> Result<(), Refusal>
+        ensures { after number result self.new ≡ leaves self.old (add_height cm tenths self.old) }
     {
-        let tariff = match tariff_of(self.species, cm, tenths) {
-            Count::Is(t) => t,
-            Count::Refused(why) => return Updated::Refused(of_figure(why)),
-        };
+        let tariff = tariff_of(self.species, cm, tenths)?;
         if MOST_HEIGHTS <= self.heights.number {
-            return Updated::Refused(Refusal::Limit);
+            return Err(Refusal::Limit);
         }
         // No survey reaches a line of which this is true.
         if MOST_TARIFFS < self.heights.tariffs {
-            return Updated::Refused(Refusal::Operand);
+            return Err(Refusal::Operand);
         }
-        let number = self.heights.number + 1;
-        let tariffs = self.heights.tariffs + tariff;
-        let heights = Heights { number, tariffs };
-        let mut line = self;
-        line.heights = heights;
-        Updated::Is(line)
+        self.heights.number += 1;
+        self.heights.tariffs += tariff;
+        Ok(())
     }
 
     // The small trees, which are given once.
     #[tactic(auto, unfolding(crate::specs::Line::add_small))]
-    pub fn add_small(self, carbon: u32, count: u32) -> Updated
-        ensures { updated result ≡ add_small carbon count self }
+    pub fn add_small(&mut self, carbon: u32, count: u32) -> Result<(), Refusal>
+        ensures { after number result self.new ≡ leaves self.old (add_small carbon count self.old) }
     {
         let small = SmallTrees {
             carbon: carbon as u64,
             count: count as u64,
         };
         if !within(1, small.carbon, GREATEST_CARBON) {
-            return Updated::Refused(Refusal::Operand);
+            return Err(Refusal::Operand);
         }
         if !within(1, small.count, MOST_SMALL) {
-            return Updated::Refused(Refusal::Operand);
+            return Err(Refusal::Operand);
         }
         if 0 < self.small.count {
-            return Updated::Refused(Refusal::AlreadyGiven);
+            return Err(Refusal::AlreadyGiven);
         }
-        let mut line = self;
-        line.small = small;
-        Updated::Is(line)
+        self.small = small;
+        Ok(())
     }
 
     // The line's row with these figures.
@@ -245,29 +211,33 @@ impl Line {
         trees: u32,
         measured: BiomassRange,
         small: u64,
-    ) -> Estimated
+    ) -> Result<Row, Refusal>
         requires { (measured.low.0 ≤ measured.high.0) × (measured.high.0 ≤ greatest_row) }
-        ensures { estimated result ≡ row_gaining self tariff d trees measured small }
+        ensures { report number result ≡ row_gaining self tariff d trees measured small }
     {
         if small == 0 {
-            return Estimated::Is(self.row_with(tariff, d, trees, measured));
+            return Ok(self.row_with(tariff, d, trees, measured));
         }
-        let gained = match small_trees(small, self.small.carbon) {
-            Biomass::Is(m) => m,
-            Biomass::Refused(why) => return Estimated::Refused(of_figure(why)),
-        };
+        let gained = small_trees(small, self.small.carbon)?;
         let both = BiomassRange {
             low: Milligrams(measured.low.0 + gained.low.0),
             high: Milligrams(measured.high.0 + gained.high.0),
         };
-        Estimated::Is(self.row_with(tariff, d, trees, both))
+        Ok(self.row_with(tariff, d, trees, both))
     }
 
     // The row of a line whose tariff, mean diameter, factor and numbers of measured and of small trees are known.
     #[tactic(auto, unfolding(crate::specs::AnyLine::worked))]
-    fn worked(self, tariff: u64, d: u64, factor: u8, number: u64, small: u64) -> Estimated
-        requires { Inside 1 tariff 50 × Inside least_d d greatest_d × (number ≤ most_estimated) × (small ≤ most_estimated) }
-        ensures { estimated result ≡ worked self tariff d factor number small }
+    fn worked(
+        self,
+        tariff: u64,
+        d: u64,
+        factor: u8,
+        measured: u64,
+        small: u64,
+    ) -> Result<Row, Refusal>
+        requires { Inside 1 tariff 50 × Inside least_d d greatest_d × (measured ≤ most_estimated) × (small ≤ most_estimated) }
+        ensures { report number result ≡ worked self tariff d factor measured small }
     {
         let s = self.species;
         let average = AverageTree {
@@ -278,63 +248,42 @@ impl Line {
             crown: s.crown as u64,
             root: s.root as u64,
         };
-        let both = number + small;
-        let measured = match row_biomass(number, average) {
-            Biomass::Is(m) => m,
-            Biomass::Refused(why) => return Estimated::Refused(of_figure(why)),
-        };
-        self.row_gaining(tariff as u8, d as u16, both as u32, measured, small)
+        let both = measured + small;
+        let biomass = row_biomass(measured, average)?;
+        self.row_gaining(tariff as u8, d as u16, both as u32, biomass, small)
     }
 
     // The row of a line with measured trees and height trees, worked with the factor at its mean diameter.
-    fn some_row(self, factors: [u8; 101]) -> Estimated
-        ensures { estimated result ≡ some_row factors self }
+    fn some_row(&self, factors: &[Option<u8>; 101]) -> Result<Row, Refusal>
+        ensures { report number result ≡ some_row factors.now self.now }
     {
-        let d = match mean(self.tally.n, self.tally.squares) {
-            Count::Is(d) => d,
-            Count::Refused(why) => return Estimated::Refused(of_figure(why)),
-        };
+        let d = mean(self.tally.n, self.tally.squares)?;
         let cm = (d / UNITS_TO_CM) as usize;
-        let factor = factors[cm];
-        if factor == 0 {
-            return Estimated::Refused(Refusal::NoFactor);
-        }
-        let number = match scale(self.tally.n, self.p, self.q) {
-            Scaled::Is(number) => number,
-            Scaled::Refused(why) => return Estimated::Refused(why),
-        };
-        let small = match scale(self.small.count, self.p, self.q) {
-            Scaled::Is(number) => number,
-            Scaled::Refused(why) => return Estimated::Refused(why),
-        };
-        let tariff = match line_tariff(self.heights.tariffs, self.heights.number) {
-            Count::Is(t) => t,
-            Count::Refused(why) => return Estimated::Refused(of_figure(why)),
-        };
-        self.worked(tariff, d, factor, number, small)
+        let factor = factors[cm].ok_or(Refusal::NoFactor)?;
+        let measured = scale(self.tally.n, self.p, self.q)?;
+        let small = scale(self.small.count, self.p, self.q)?;
+        let tariff = line_tariff(self.heights.tariffs, self.heights.number)?;
+        self.worked(tariff, d, factor, measured, small)
     }
 
     // The row of a line without measured trees.
-    fn small_row(self) -> Estimated
-        ensures { estimated result ≡ small_row self }
+    fn small_row(&self) -> Result<Row, Refusal>
+        ensures { report number result ≡ small_row self.now }
     {
-        let small = match scale(self.small.count, self.p, self.q) {
-            Scaled::Is(number) => number,
-            Scaled::Refused(why) => return Estimated::Refused(why),
-        };
+        let small = scale(self.small.count, self.p, self.q)?;
         self.row_gaining(0, 0, small as u32, no_biomass(), small)
     }
 
     // The line closed: its row.
     #[tactic(auto, unfolding(crate::specs::AnyLine::line_row))]
-    pub fn row(self, factors: [u8; 101]) -> Estimated
-        ensures { estimated result ≡ line_row factors self }
+    pub fn row(&self, factors: &[Option<u8>; 101]) -> Result<Row, Refusal>
+        ensures { report number result ≡ line_row factors.now self.now }
     {
         if self.tally.n == 0 {
             return self.small_row();
         }
         if self.heights.number == 0 {
-            return Estimated::Refused(Refusal::NoHeightTree);
+            return Err(Refusal::NoHeightTree);
         }
         self.some_row(factors)
     }

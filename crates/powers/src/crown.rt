@@ -443,12 +443,8 @@ const POWER: [u64; 431] = [
 pub fn crown_power(d: u64) -> u64
     ensures { result ≡ tabled d }
 {
-    if d < LEAST_D {
-        return 0;
+    match d {
+        LEAST_D..=CROWN_LIMIT => POWER[(d - LEAST_D) as usize],
+        _ => 0,
     }
-    if CROWN_LIMIT < d {
-        return 0;
-    }
-    let at = (d - LEAST_D) as usize;
-    POWER[at]
 }

@@ -12,43 +12,83 @@
 mod digest;
 
 use codec::command::Command;
-use codec::reading::Reading;
-use codec::refusal::Refusal;
-use codec::writing::{Written, write};
-use digest::Digest;
+use codec::writing::write;
+use digest::{Digest, UNDECLARED};
+use line::line::Line;
 use std::io;
 use std::io::{BufWriter, Read, Write};
-use survey::reader::{command_at, read_through};
+use survey::reader::{Extent, command_at, read_through};
 use survey::survey::Survey;
 
 // How many bytes of the stream are played at most.
 const MOST_BYTES: usize = 65_536;
 
-#[derive(Drop)]
+#[derive(Clone, Copy)]
 struct Play {
     // The place of the next command.
     at: usize,
     survey: Survey,
+    // The line that was opened last, which a closing leaves in no survey.
+    line: Line,
     // Whether 07 stands just before that place.
     after_end: bool,
 }
 
-// A new survey, whose first command is at this place.
-fn beginning(at: usize) -> Play {
-    Play {
-        at,
-        survey: Survey::new(),
-        after_end: false,
+impl Play {
+    // A new survey, whose first command is at this place.
+    fn beginning(at: usize) -> Self {
+        Play {
+            at,
+            survey: Survey::new(),
+            line: Line::new(0, 0, UNDECLARED, 0, 0),
+            after_end: false,
+        }
     }
-}
 
-fn number<W: Write>(out: &mut W, n: u64) -> io::Result<()> {
-    write!(out, "{n} ")
-}
+    // One place of the book.
+    fn turn<W: Write>(self, out: &mut W, book: &[u8]) -> io::Result<Self> {
+        let at = self.at;
+        let advance = command_at(book, at);
+        let next = advance.at;
+        match advance.reading {
+            Ok((command, _)) => {
+                write!(out, "{at} {next} ")?;
+                play_writing(out, at, command)?;
+                self.applied(out, command, next)
+            }
+            Err(why) => {
+                // The remainder is the place itself.
+                let from = at % 100_000 + 1;
+                let number = why.number();
+                write!(out, "{at} {number} {next} ")?;
+                play_reading(out, book, from)?;
+                Ok(Play {
+                    at: from,
+                    after_end: false,
+                    ..self
+                })
+            }
+        }
+    }
 
-// The last number of a line.
-fn last<W: Write>(out: &mut W, n: u64) -> io::Result<()> {
-    writeln!(out, "{n}")
+    // Applies the command before a place, from which it goes on.
+    fn applied<W: Write>(self, out: &mut W, command: Command, next: usize) -> io::Result<Self> {
+        let (survey, outcome) = self.survey.apply(command);
+        let number = outcome.err().map_or(0, |why| why.number());
+        let line = survey.line.unwrap_or(self.line);
+        let digest = Digest(0).survey(&survey, line).0;
+        writeln!(out, "{number} {digest}")?;
+        let after_end = matches!(command, Command::End);
+        if after_end && self.after_end {
+            return Ok(Play::beginning(next));
+        }
+        Ok(Play {
+            at: next,
+            survey,
+            line,
+            after_end,
+        })
+    }
 }
 
 // Bytes that hang on the place, so that one written by mistake shows.
@@ -62,97 +102,27 @@ fn fill(buffer: &mut [u8], at: usize) {
 fn play_writing<W: Write>(out: &mut W, at: usize, command: Command) -> io::Result<()> {
     let mut buffer = [0u8; 40];
     fill(&mut buffer, at);
-    let answer = write(&mut buffer, at % 48, command);
-    let digest = Digest(0).bytes(&buffer);
-    match answer {
-        Written::Next(next) => {
-            number(out, 0)?;
-            number(out, next as u64)?;
-        }
-        Written::Refused(why) => {
-            number(out, why.number() as u64)?;
-            number(out, 0)?;
-        }
-    }
-    number(out, digest.0)
+    let (number, next) = match write(&mut buffer, at % 48, command) {
+        Ok(next) => (0, next),
+        Err(why) => (why.number(), 0),
+    };
+    let digest = Digest(0).bytes(&buffer).0;
+    write!(out, "{number} {next} {digest} ")
 }
 
-fn is_end(command: Command) -> bool {
-    matches!(command, Command::End)
-}
-
-// Applies the command, and answers the survey that came back.
-fn play_applying<W: Write>(out: &mut W, survey: Survey, command: Command) -> io::Result<Survey> {
-    let applied = survey.apply(command);
-    let outcome = applied.outcome;
-    number(out, outcome.number() as u64)?;
-    let after = applied.survey;
-    last(out, Digest(0).survey(&after).0)?;
-    Ok(after)
-}
-
-// A refusal with the place to go on from, and how far the book reads from another place.
-fn print_refusal<W: Write>(
-    out: &mut W,
-    book: &[u8],
-    why: Refusal,
-    at: usize,
-    from: usize,
-) -> io::Result<()> {
-    number(out, why.number() as u64)?;
-    number(out, at as u64)?;
-    let extent = read_through(book, from);
-    let stopped = extent.why;
-    number(out, extent.commands as u64)?;
-    number(out, extent.at as u64)?;
-    last(out, stopped.number() as u64)
-}
-
-// One place of the book.
-fn turn<W: Write>(out: &mut W, book: &[u8], play: Play) -> io::Result<Play> {
-    let Play {
-        at,
-        survey,
-        after_end,
-    } = play;
-    number(out, at as u64)?;
-    let advance = command_at(book, at);
-    let next = advance.at;
-    match advance.reading {
-        Reading::Is(command, _) => {
-            number(out, next as u64)?;
-            play_writing(out, at, command)?;
-            let after = play_applying(out, survey, command)?;
-            let end = is_end(command);
-            if end && after_end {
-                Ok(beginning(next))
-            } else {
-                Ok(Play {
-                    at: next,
-                    survey: after,
-                    after_end: end,
-                })
-            }
-        }
-        Reading::Refused(why) => {
-            // The remainder is the place itself.
-            let from = at % 100_000 + 1;
-            print_refusal(out, book, why, next, from)?;
-            Ok(Play {
-                at: from,
-                survey,
-                after_end: false,
-            })
-        }
-    }
+// How far the book reads from a place.
+fn play_reading<W: Write>(out: &mut W, book: &[u8], from: usize) -> io::Result<()> {
+    let Extent { commands, at, why } = read_through(book, from);
+    let number = why.number();
+    writeln!(out, "{commands} {at} {number}")
 }
 
 fn play_all<W: Write>(out: &mut W, book: &[u8]) -> io::Result<()> {
-    let mut play = beginning(0);
+    let mut play = Play::beginning(0);
     // Each turn goes on by a byte at least, so no book takes more.
     for _ in 0..65_538u32 {
         let at = play.at;
-        play = turn(out, book, play)?;
+        play = play.turn(out, book)?;
         if book.len() < at {
             break;
         }

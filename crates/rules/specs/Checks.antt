@@ -1,8 +1,9 @@
 -- "What each operation may decline", of a declaration, an opening and the end: the checks in document 01's order, each over the values that it looks at. Those of
 -- the open line's own commands and of a closing are survey/specs/Survey.antt.
-use Rattle.std.specs.Prelude.{ℕ, Bool, true, false, cond, List, [], ◌∷◌, leb, ltb, eqb}
+use Rattle.std.specs.Prelude.{ℕ, Bool, false, cond, List, Option, leb, eqb, ◌&&◌}
+use Rattle.std.specs.List.{list_any}
 use Rattle.biomass.specs.Whole.{inside}
-use Rattle.biomass.specs.Report.{Report, unless, when}
+use Rattle.biomass.specs.Report.{Report, unless, when, ◌then◌, given}
 use Rattle.biomass.specs.Limits.{greatest_area}
 use Rattle.codec.specs.declared.command.Species.{Species}
 use Rattle.line.specs.declared.row.Row.{Row}
@@ -14,10 +15,6 @@ most_lines = 32
 -- "id (1 byte, 0 to 15), crown group (1, 0 to 7), root group (1, 0 to 5), specific gravity in hundredths (1, 1 to 100), c1 c2 c3 c4 (.. any value)"
 abbrev pub species_in_range : ℕ → Species → Bool
 species_in_range id s = cond (inside 0 id 15) (cond (inside 0 s.crown 7) (cond (inside 0 s.root 5) (inside 1 s.gravity 100) false) false) false
-
--- "8 species undeclared, an id above 15 included": by what stands at its place
-abbrev pub declared_as : ℕ → Species → Bool
-declared_as id there = cond (inside 0 id 15) (ltb 0 there.gravity) false
 
 -- "Species and factor: 6 operand outside its range; 7 already given."
 abbrev pub declaring : {A : Type 0} → ℕ → Species → Bool → Report A → Report A
@@ -36,25 +33,25 @@ giving cm factor given next =
 
 -- "7 same stratum and species already opened": where no line is open, those opened are those closed, and each has its row
 abbrev pub is_line : ℕ → ℕ → Row → Bool
-is_line stratum id r = cond (eqb r.stratum stratum) (eqb r.species id) false
+is_line stratum id r = eqb r.stratum stratum && eqb r.species id
 
 abbrev pub any_line : ℕ → ℕ → List Row → Bool
-any_line stratum id [] = false
-any_line stratum id (r ∷ l) = cond (is_line stratum id r) true (any_line stratum id l)
+any_line stratum id rows = list_any (is_line stratum id) rows
 
 -- "03 open a line: stratum (1, any), species (1), p (4), q (4), both 1 to 100,000,000."
 abbrev pub areas_in_range : ℕ → ℕ → Bool
 areas_in_range p q = cond (inside 1 p greatest_area) (inside 1 q greatest_area) false
 
--- "Opening: 6; 9 a line is open; 8 species undeclared, an id above 15 included; 7 same stratum and species already opened; 11 32 lines opened."
-abbrev pub opening : {A : Type 0} → ℕ → ℕ → Bool → Bool → Bool → ℕ → Report A → Report A
-opening p q is_open is_declared before closed next =
+-- "Opening: 6; 9 a line is open; 8 species undeclared, an id above 15 included; 7 same stratum and species already opened; 11 32 lines opened." `there`: what the
+-- species was declared with, where it was
+abbrev pub opening : {A : Type 0} → ℕ → ℕ → Bool → Option Species → Bool → ℕ → (Species → Report A) → Report A
+opening p q is_open there before closed next =
     unless (areas_in_range p q) 6
     (when is_open 9
-    (unless is_declared 8
-    (when before 7
+    (given there 8 then λ x.
+    when before 7
     (when (leb most_lines closed) 11
-    next))))
+    (next x))))
 
 -- "Ending: 9."
 abbrev pub ending : {A : Type 0} → Bool → Report A → Report A

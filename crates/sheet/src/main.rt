@@ -3,81 +3,112 @@
 // book prints the number of the refusal and its place.
 #![tactic(auto)]
 
-use console::{Output, input_buffer, read_input, too_long};
-use line::row::Row;
-use std::io::Write;
-use survey::sheet::{Found, SHEET_LENGTH, find_row};
-use survey::total::{Totalled, Totals, total};
+ghost use Rattle.std.specs.Prelude.{Some};
+ghost use Rattle.sheet.specs.Lines.{estimate, project_line, row_line, two_places};
 
-// Trees to two places. Both places are digits of their own, so that 5 hundredths are 0.05.
-fn print_trees<W: Write + Drop>(output: Output<W>, hundredths: u64) -> Output<W> {
-    output
-        .number(hundredths / 100)
-        .named(b".", hundredths / 10 % 10)
-        .number(hundredths % 10)
+use console::{Output, RefusalLine, print_of_book};
+use line::row::Row;
+use std::fmt::{Display, Formatter};
+use std::io::Write;
+use std::{fmt, io};
+use survey::playing::Stopped;
+use survey::sheet::{SHEET_LENGTH, find_row};
+use survey::total::{Totals, total};
+
+// Trees, in hundredths, printed to two places.
+#[derive(Clone, Copy)]
+struct Trees(u64);
+
+impl Display for Trees {
+    ghost output = { λ trees. Some (two_places trees.0) };
+
+    fn fmt<W: fmt::Write>(&self, f: &mut Formatter<W>) -> fmt::Result {
+        let Trees(hundredths) = *self;
+        let whole = hundredths / 100;
+        let part = hundredths % 100;
+        write!(f, "{whole}.{part:02}")
+    }
 }
 
 // What a row's line and the project's line end with.
-fn print_estimate<W: Write + Drop>(
-    output: Output<W>,
-    hundredths: u64,
+#[derive(Clone, Copy)]
+struct Estimate {
+    trees: Trees,
     low: u64,
     high: u64,
-) -> Output<W> {
-    print_trees(output, hundredths)
-        .named(b" ", low)
-        .named(b" ", high)
-        .text(b"\n")
 }
 
-fn print_row<W: Write + Drop>(output: Output<W>, row: Row) -> Output<W> {
-    let biomass = row.biomass;
-    let line = output
-        .number(row.stratum as u64)
-        .named(b" ", row.species as u64)
-        .text(b" ");
-    print_estimate(line, row.trees as u64, biomass.low.0, biomass.high.0)
-}
+impl Display for Estimate {
+    ghost output = { λ e. Some (estimate e.trees.0 e.low e.high) };
 
-// The i-th row of the sheet, counted from 0. Totalling stored it there, so none is passed over.
-fn print_found<W: Write + Drop>(output: Output<W>, sheet: &[u8], i: usize) -> Output<W> {
-    match find_row(sheet, i) {
-        Found::Is(row) => print_row(output, row),
-        Found::Refused(_) => output,
+    fn fmt<W: fmt::Write>(&self, f: &mut Formatter<W>) -> fmt::Result {
+        let Estimate { trees, low, high } = *self;
+        write!(f, "{trees} {low} {high}")
     }
 }
 
-fn print_rows<W: Write + Drop>(output: Output<W>, sheet: &[u8], rows: usize) -> Output<W> {
-    let mut printed = output;
-    for i in 0..rows {
-        printed = print_found(printed, sheet, i);
+#[derive(Clone, Copy)]
+struct RowLine(Row);
+
+impl Display for RowLine {
+    ghost output = { λ line. Some (row_line line.0) };
+
+    fn fmt<W: fmt::Write>(&self, f: &mut Formatter<W>) -> fmt::Result {
+        let row = self.0;
+        let (stratum, species) = (row.stratum, row.species);
+        let estimate = Estimate {
+            trees: Trees(u64::from(row.trees)),
+            low: row.biomass.low.0,
+            high: row.biomass.high.0,
+        };
+        write!(f, "{stratum} {species} {estimate}")
     }
-    printed
 }
 
-fn print_project<W: Write + Drop>(output: Output<W>, totals: Totals) -> Output<W> {
-    let carbon = totals.carbon;
-    print_estimate(
-        output.text(b"project "),
-        totals.trees,
-        carbon.low.0,
-        carbon.high.0,
-    )
+#[derive(Clone, Copy)]
+struct ProjectLine(Totals);
+
+impl Display for ProjectLine {
+    ghost output = { λ line. Some (project_line line.0) };
+
+    fn fmt<W: fmt::Write>(&self, f: &mut Formatter<W>) -> fmt::Result {
+        let totals = self.0;
+        let estimate = Estimate {
+            trees: Trees(totals.trees),
+            low: totals.carbon.low.0,
+            high: totals.carbon.high.0,
+        };
+        write!(f, "project {estimate}")
+    }
 }
 
-fn print_sheet<W: Write + Drop>(output: Output<W>, book: &[u8]) -> Output<W> {
+// Totalling stored so many rows in the sheet, so none is passed over.
+fn print_rows<W: Write + Drop>(
+    output: &mut Output<W>,
+    sheet: &[u8],
+    rows: usize,
+) -> io::Result<()> {
+    for row in (0..rows).filter_map(|i| find_row(sheet, i).ok()) {
+        writeln!(output, "{}", RowLine(row))?;
+    }
+    Ok(())
+}
+
+fn print_sheet<W: Write + Drop>(output: &mut Output<W>, book: &[u8]) -> io::Result<()> {
     let mut sheet = [0u8; SHEET_LENGTH];
     match total(book, &mut sheet) {
-        Totalled::Is(totals) => print_project(print_rows(output, &sheet, totals.rows), totals),
-        Totalled::Refused { why, at } => output.refusal(why.number(), at),
+        Ok(totals) => {
+            print_rows(output, &sheet, totals.rows)?;
+            writeln!(output, "{}", ProjectLine(totals))
+        }
+        Err(Stopped { why, at }) => {
+            let number = why.number();
+            write!(output, "{}", RefusalLine { number, at })
+        }
     }
 }
 
 fn main(rt: HostRuntime) {
-    let mut buffer = input_buffer();
-    let n = read_input(&mut rt.stdin(), &mut buffer);
-    if too_long(&rt, n) {
-        return;
-    }
-    print_sheet(Output::new(&rt), &buffer[..n]).finish();
+    // A write that fails ends the text, and the status does not tell.
+    let _ = print_of_book(&mut rt.stdin(), Output::new(&rt), print_sheet);
 }

@@ -16,12 +16,12 @@
 --     Named: refusal_not_zero, refusal_from_five      and no refusal is taken for acceptance, nor for one of reading or writing
 --     Named: line_row_declines                and those of a line's row by themselves
 --     Limit: limit_told, close_never          11 is told only at the limit, of any survey; closing tells it of no valid one
---     Change: ended_refuses, decides          a book that has ended takes no command; what the code decides of a command is what applying it makes of the survey
---     Change: not_ended_seen                  a book that has not ended is seen so
---     Change: own_applied                     and a command of the open line does to the survey what it does to the line
+--     Named: ended_refuses                    a book that has ended takes no command
+--     Named: is_taken, is_refused             what the code answers of a command tells which it is
 --     Stable: species_stay, factors_stay, rows_stay     what is given once never changes
 --     Playing: plays_refused, plays_on, plays_end, plays_past_end     how playing goes on from a place; `enough_commands`: how many commands are allowed makes no difference
---     Playing: plays_taken, plays_declined, plays_unread      and from a command whose change is known; `plays_updated`, `update_refused`: on an open line by itself
+--     Playing: plays_taken, plays_declined, plays_unread      and from a command that is taken, refused or not read; `plays_applied`, `plays_told`: by what the code answers
+--     Playing: measured_on, height_on, line_kept     a tree that is noted of an open line is noted of every survey with that line; a refused one leaves the line as it was
 --     Playing: play_valid, play_ended         a book is played to a valid survey, which has ended
 --     Playing: kept_to_the_end                what every command keeps is kept to the end of the book
 --     Playing: end_at_length, one_at_length, place_of_command, place_in_book      a refused book stops at its end with 1 alone, and with any other number at one of its bytes
@@ -37,6 +37,7 @@
 --     Total: refusals_of_totalling            and totalling is refused with 1, 2, 3 or 5 to 16
 --     Total: place_of_refusal                 16 at 0, 1 at the book's length, and any other number at one of the book's bytes
 --     Sums: sums_small, project_gives         the sums of 32 rows, and eleven times them, fit 64 bits
+--     Sums: sum_is                            and each is what the library's sum gives
 --     Demand3: demand3, demanded              demand 3, of up to 32 closings, and of what every book with every sheet is answered
 --     Demand3: trees_are                      "the N of all lines added" that comes back is that of demand 3's lines
 --     Demand3: total_den                      and its comparisons with the exact total are comparisons: no denominator is 0
@@ -55,9 +56,8 @@ pub mod Reach
 pub mod Reader
 -- checks that are passed and failed
 pub mod Checks
--- surveys: applying a command is the text, and is deciding and changing; what is changed, and what a command is refused with
+-- surveys: applying a command is the text; what is changed, and what a command is refused with
 pub mod AsWritten
-pub mod Change
 pub mod Closing
 pub mod Effect
 pub mod Stable

@@ -6,15 +6,14 @@ use Rattle.biomass.specs.Fraction.{Fraction, whole, ◌⊕◌, ◌⊗◌, ◌ove
 use Rattle.biomass.specs.Exact.{Given, NotBelow, NotAbove}
 use Rattle.line.specs.Line.{Estimate, no_trees, both_numbers}
 use Rattle.line.specs.Exact.{exact_of}
-use Rattle.survey.specs.Survey.{estimate}
-use Rattle.survey.specs.Closings.{closings_of}
+use Rattle.survey.specs.Closings.{estimate_of, closings_of}
 use Rattle.survey.specs.Total.{Answer, refused_at, totalled}
 
 -- ---- the lines of an accepted book
 
 -- "taking T, d, N, f and s of each line": what is estimated of each line of a book that is accepted, in closing order
 unfoldable pub lines_of : List ℕ → List Estimate
-lines_of book = map estimate (closings_of book)
+lines_of book = map estimate_of (closings_of book)
 
 -- "the N of all lines added"; "estimated trees counts both sorts" (document 02, Q-1)
 unfoldable pub trees_added : List Estimate → ℕ

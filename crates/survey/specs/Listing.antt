@@ -12,7 +12,7 @@ use Rattle.survey.specs.declared.total.Totals.{Totals}
 
 -- "species 3 (crown 7, root 5, gravity 56, constants 58830000, 20123000, −54780, −57397)"
 abbrev pub listed : Declared.Species
-listed = record { crown = 7; root = 5; gravity = 56; c1 = pos 58830000; c2 = pos 20123000; c3 = neg_ℤ (pos 54780); c4 = neg_ℤ (pos 57397) }
+listed = record { crown = 7; root = 5; gravity = 56; constants = record { c1 = pos 58830000; c2 = pos 20123000; c3 = neg_ℤ (pos 54780); c4 = neg_ℤ (pos 57397) } }
 
 abbrev pub species3 : Command
 species3 = Species 3 listed

@@ -1,17 +1,17 @@
 -- "Totalling a book": its commands are applied to a fresh survey, one after the other, to the end of the book or to "the first refusal met, with the
 -- place of its command".
-use Rattle.std.specs.Prelude.{ℕ, zero, suc, ◌+◌, cond, List, [], ◌∷◌, length, ltb}
+use Rattle.std.specs.Prelude.{ℕ, zero, suc, ◌+◌, ◌≤◌, ◌<◌, ◌≡◌, false, Option, Some, None, cond, List, [], ◌∷◌, length, ltb, Result, Ok, Err}
 use Rattle.biomass.specs.Report.{Report, refused, gives, ◌then◌}
 use Rattle.codec.specs.Refusal.{number}
 use Rattle.codec.specs.Command.{encode}
 use Rattle.codec.specs.Reading.{read}
-use Rattle.survey.specs.Survey.{fresh}
+use Rattle.survey.specs.Survey.{fresh, with_line}
 use Rattle.survey.specs.Apply.{apply}
 use Rattle.survey.specs.declared.survey.Survey.{Survey}
 use Rattle.codec.specs.declared.command.Command.{Command}
-use Rattle.survey.specs.declared.survey.Outcome.{Outcome}
-use Rattle.survey.specs.declared.playing.Played as Code
-use Rattle.survey.specs.declared.playing.Halt.{Halt}
+use Rattle.codec.specs.declared.refusal.Refusal.{Refusal}
+use Rattle.line.specs.declared.line.Line.{Line}
+use Rattle.survey.specs.declared.playing.Stopped.{Stopped}
 
 -- the survey at the end of the book, or the number of the first refusal and the place of its command
 pub data Played : Type 0 where
@@ -19,16 +19,9 @@ pub data Played : Type 0 where
   stopped : ℕ → ℕ → Played
 
 -- what the code answers
-abbrev pub played : Code.Played → Played
-played p = by_outcome p.outcome
-  where
-    by_outcome : Outcome → Played
-    by_outcome Outcome.Done = ended p.survey
-    by_outcome (Outcome.Refused why) = stopped (number why) p.at
-
--- and what a halt of the code comes to with a survey
-abbrev pub comes_to : Halt → Survey → Played
-comes_to h s = played (record { survey = s; at = h.at; outcome = h.outcome })
+abbrev pub played : Result Survey Stopped → Played
+played (Ok s) = ended s
+played (Err h) = stopped (number h.why) h.at
 
 -- The rules by which a command is applied to a survey: the papers' bare text (AsWritten), by which a book is totalled, or `apply`, which the code does
 -- and by which each book comes to the same (Law.Playing: play_as_written)
@@ -91,3 +84,19 @@ play_from = play_from_by apply
 
 unfoldable pub play : List ℕ → Played
 play = play_by apply
+
+-- With the line l open, a book plays from one place on as it does from another with the line m: what the code passes over in between is noted of the line alone. (A
+-- private part of playing; no paper names it.)
+abbrev pub PlaysOn : List ℕ → ℕ → Line → ℕ → Line → Type 0
+PlaysOn book at l next m = (s : Survey) → s.ended ≡ false → s.line ≡ Some l → play_from book at s ≡ play_from book next (with_line s m)
+
+-- what one command comes to that is looked for on an open line l, which is m afterwards: it is noted of l, or another command stands there, or it is refused
+abbrev pub Notes : List ℕ → ℕ → Line → Result (Option ℕ) Refusal → Line → Type 0
+Notes book at l (Ok (Some next)) m = (at < next) × (next ≤ length book) × PlaysOn book at l next m
+Notes book at l (Ok None) m = m ≡ l
+Notes book at l (Err why) m = (s : Survey) → s.ended ≡ false → s.line ≡ Some l → play_from book at s ≡ stopped (number why) at
+
+-- and any command, of a survey s, which is t afterwards
+abbrev pub Steps : List ℕ → ℕ → Survey → Result ℕ Refusal → Survey → Type 0
+Steps book at s (Ok next) t = s.ended ≡ false → (at < next) × (next ≤ length book) × (play_from book at s ≡ play_from book next t)
+Steps book at s (Err why) t = s.ended ≡ false → play_from book at s ≡ stopped (number why) at

@@ -1,16 +1,17 @@
 -- "Totalling a book into a sheet": the answer, and every byte of the sheet afterwards.
-use Rattle.std.specs.Prelude.{ℕ, ◌+◌, Bool, cond, List, [], ◌∷◌, length, ltb}
+use Rattle.std.specs.Prelude.{ℕ, ◌+◌, Bool, cond, List, [], ◌∷◌, length, ltb, Result, Ok, Err}
 use Rattle.biomass.specs.Ends.{between}
 use Rattle.biomass.specs.Project.{project_of}
-use Rattle.biomass.specs.declared.units.BiomassRange.{BiomassRange}
+use Rattle.biomass.specs.Units.{BiomassRange}
 use Rattle.codec.specs.Refusal.{number}
 use Rattle.codec.specs.Bytes.{stored_at}
 use Rattle.survey.specs.AsWritten.{as_written}
 use Rattle.survey.specs.Playing.{Played, ended, stopped, play_by}
-use Rattle.survey.specs.Sheet.{sheet_length, sheet_bytes, rows_of}
+use Rattle.survey.specs.Survey.{rows_of}
+use Rattle.survey.specs.Sheet.{sheet_length, sheet_bytes}
 use Rattle.line.specs.declared.row.Row.{Row}
 use Rattle.survey.specs.declared.total.Totals.{Totals}
-use Rattle.survey.specs.declared.total.Totalled.{Totalled}
+use Rattle.survey.specs.declared.playing.Stopped.{Stopped}
 
 -- ---- what comes back
 
@@ -20,9 +21,9 @@ pub data Answer : Type 0 where
   totalled : Totals → Answer
 
 -- what the code answers
-abbrev pub answer : Totalled → Answer
-answer (Totalled.Is t) = totalled t
-answer (Totalled.Refused why at) = refused_at (number why) at
+abbrev pub answer : Result Totals Stopped → Answer
+answer (Ok t) = totalled t
+answer (Err h) = refused_at (number h.why) h.at
 
 -- ---- the totals
 

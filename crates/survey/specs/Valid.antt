@@ -1,11 +1,11 @@
 -- Valid surveys: what holds of a fresh survey and is kept by every command (Law.Valid), so that it holds of every survey that a book reaches.
-use Rattle.std.specs.Prelude.{ℕ, ◌*◌, ◌≤◌, ◌<◌, ◌≡◌, true, false, List, [], ◌∷◌, length, get_or, take}
+use Rattle.std.specs.Prelude.{ℕ, ◌*◌, ◌≤◌, ◌<◌, ◌≡◌, true, false, List, [], ◌∷◌, length, get_or, None, Some}
 use Rattle.powers.specs.Diameter.{greatest_d}
 use Rattle.biomass.specs.Limits.{most_measured, most_heights, greatest_area, most_small, greatest_carbon}
 use Rattle.biomass.specs.Bounds.{Inside}
-use Rattle.line.specs.Line.{factor_at, empty_row}
+use Rattle.line.specs.Line.{factor_at}
 use Rattle.line.specs.Bounds.{LineBounds, most_of_both}
-use Rattle.survey.specs.Survey.{no_line, species_at, declared, opened}
+use Rattle.survey.specs.Survey.{no_row, species_at, rows_of, opened}
 use Rattle.rules.specs.Checks.{most_lines, any_line}
 use Rattle.codec.specs.declared.command.Species.{Species}
 use Rattle.line.specs.declared.row.Row.{Row}
@@ -44,8 +44,7 @@ pub record ValidSmall (t : SmallTrees) : Type 0 where
 
 -- an open line: its species is the survey's, and what is noted of it is within the limits
 pub record ValidLine (s : Survey) (l : Line) : Type 0 where
-  pub is_declared : declared l.id s ≡ true
-  pub species : l.species ≡ species_at s l.id
+  pub species : species_at s l.id ≡ Some l.species
   pub p : Inside 1 l.p greatest_area
   pub q : Inside 1 l.q greatest_area
   pub tally : ValidTally l.tally
@@ -68,19 +67,19 @@ pub data Apart : List Row → Type 0 where
   more : (r : Row) (l : List Row) → any_line r.stratum r.species l ≡ false → Apart l → Apart (r ∷ l)
 
 abbrev pub row_at : Survey → ℕ → Row
-row_at s i = get_or s.rows i (empty_row no_line)
+row_at s i = get_or s.rows i no_row
 
 pub record Valid (s : Survey) : Type 0 where
   -- the tables are as long as the code's arrays
   pub ids : length s.species ≡ 16
   pub cms : length s.factors ≡ 101
   pub places : length s.rows ≡ most_lines
-  pub species : (id : ℕ) → declared id s ≡ true → ValidSpecies (species_at s id)
-  pub factors : (cm : ℕ) → 0 < factor_at s.factors cm → ValidFactor cm (factor_at s.factors cm)
+  pub species : (id : ℕ) (x : Species) → species_at s id ≡ Some x → ValidSpecies x
+  pub factors : (cm x : ℕ) → factor_at s.factors cm ≡ Some x → ValidFactor cm x
   -- "32 lines": the closed ones, and the open one
   pub lines : s.closed ≤ most_lines
-  pub room : s.active ≡ true → s.closed < most_lines
+  pub room : (l : Line) → s.line ≡ Some l → s.closed < most_lines
   pub rows : (i : ℕ) → i < s.closed → Within (row_at s i)
-  pub apart : Apart (take s.closed s.rows)
-  pub line : s.active ≡ true → ValidLine s s.line
-  pub finished : s.ended ≡ true → s.active ≡ false
+  pub apart : Apart (rows_of s)
+  pub line : (l : Line) → s.line ≡ Some l → ValidLine s l
+  pub finished : s.ended ≡ true → s.line ≡ None

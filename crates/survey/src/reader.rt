@@ -1,22 +1,26 @@
 // A reader that holds a book and a cursor, above the plain reader of one command.
 ghost use Rattle.std.specs.Prelude.{◌≡◌};
-ghost use Rattle.codec.specs.Reading.{reading, read, place_after};
+ghost use Rattle.biomass.specs.Report.{report};
+ghost use Rattle.codec.specs.Reading.{read, place_after};
+ghost use Rattle.codec.specs.Refusal.{number};
 ghost use Rattle.survey.specs.Reader.{reach, extent, counted};
 
-use codec::reading::{Reading, place_after, read};
+use codec::command::Command;
+use codec::reading::read;
 use codec::refusal::Refusal;
 
-// A book, and the place of the command that is read next.
+// A book, and the place of the command that is read next. It is no `Iterator`: the `None` of one has no room for why
+// reading stops, which is all that tells a book read to its end from one cut short.
 #[derive(Clone, Copy)]
 pub struct BookReader<'a> {
     pub book: &'a [u8],
     pub at: usize,
 }
 
-// What a reader answers at a place, and the place to go on from.
+// What a reader answers at a place, and the place to go on from, which there is after a refusal too.
 #[derive(Clone, Copy)]
 pub struct Advance {
-    pub reading: Reading,
+    pub reading: Result<(Command, usize), Refusal>,
     pub at: usize,
 }
 
@@ -38,23 +42,22 @@ impl<'a> BookReader<'a> {
     }
 
     // The command at the cursor, which goes on to the place after it. After a refusal the cursor is where it was.
-    pub fn next(&mut self) -> Reading
-        ensures answer { reading result ≡ read self.old.book.now self.old.at }
-        ensures cursor { self.new ≡ record { book = self.old.book; at = place_after self.old.at (reading result) } }
+    pub fn next(&mut self) -> Result<(Command, usize), Refusal>
+        ensures answer { report number result ≡ read self.old.book.now self.old.at }
+        ensures cursor { self.new ≡ record { book = self.old.book; at = place_after self.old.at (report number result) } }
     {
-        let answer = read(self.book, self.at);
-        self.at = place_after(self.at, answer);
-        answer
+        let (command, next) = read(self.book, self.at)?;
+        self.at = next;
+        Ok((command, next))
     }
 }
 
 // What a reader of the book answers with its cursor at a place, for callers that keep the book and the place themselves.
 pub fn command_at(book: &[u8], at: usize) -> Advance
-    ensures answer { reading result.reading ≡ read book.now at }
-    ensures cursor { result.at ≡ place_after at (reading result.reading) }
+    ensures answer { report number result.reading ≡ read book.now at }
+    ensures cursor { result.at ≡ place_after at (report number result.reading) }
 {
-    let mut reader = BookReader::new(book);
-    reader.at = at;
+    let mut reader = BookReader { book, at };
     let reading = reader.next();
     Advance {
         reading,
@@ -66,15 +69,16 @@ pub fn command_at(book: &[u8], at: usize) -> Advance
 pub fn read_through(book: &[u8], from: usize) -> Extent
     ensures { extent result ≡ counted (reach book.now from) }
 {
-    let mut commands: usize = 0;
-    let mut at = from;
+    let mut reader = BookReader { book, at: from };
+    let mut commands = 0;
     loop {
-        let advance = command_at(book, at);
-        let reading = advance.reading;
-        if let Reading::Refused(why) = reading {
-            return Extent { commands, at, why };
+        if let Err(why) = reader.next() {
+            return Extent {
+                commands,
+                at: reader.at,
+                why,
+            };
         }
         commands += 1;
-        at = advance.at;
     }
 }

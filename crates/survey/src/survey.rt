@@ -1,161 +1,256 @@
-// The survey: what a field book has given so far. A command is applied to it, and it comes back beside the refusal.
+// The survey: what a field book has given so far. Each command makes its own checks, in document 01's order, and changes the
+// survey in its place; where it is refused, the survey is as it was.
 ghost use Rattle.std.specs.Prelude.{◌≡◌};
-ghost use Rattle.survey.specs.Survey.{outcome, applied, leaves, fresh, declare, give_factor, open_line, give_small, end};
+ghost use Rattle.biomass.specs.Report.{report, gives, when, after, leaves};
+ghost use Rattle.codec.specs.Refusal.{number};
+ghost use Rattle.line.specs.Line.{factor_at};
+ghost use Rattle.survey.specs.Survey.{no_row, fresh, species_at, rows_of, opened, declare, give_factor, open_line, give_small, end};
 ghost use Rattle.survey.specs.Apply.{apply_measured, apply_height, apply_close, apply};
-ghost use Rattle.survey.specs.Changed.{changed, HasPlace};
 
+use biomass::units::{BiomassRange, Milligrams};
 use codec::command::{Command, Species};
 use codec::refusal::Refusal;
 use line::line::Line;
 use line::row::Row;
-use rules::change::{Change, MOST_LINES, Seen, any_line, decide, names};
+use rules::checks::{MOST_LINES, declaring, ending, giving, opening};
+
+// What stands where no line has closed yet.
+const NO_ROW: Row = Row {
+    stratum: 0,
+    species: 0,
+    tariff: 0,
+    d: 0,
+    trees: 0,
+    biomass: BiomassRange {
+        low: Milligrams(0),
+        high: Milligrams(0),
+    },
+};
 
 #[derive(Clone, Copy)]
 pub struct Survey {
-    // What each species was declared with, by its id; gravity 0: not declared.
-    pub species: [Species; 16],
-    // The factor at each whole cm, in hundredths; 0: not given.
-    pub factors: [u8; 101],
+    // What each species was declared with, by its id.
+    pub species: [Option<Species>; 16],
+    // The factor at each whole cm, in hundredths.
+    pub factors: [Option<u8>; 101],
     // The rows of the closed lines, in closing order: so many as `closed` says.
     pub rows: [Row; MOST_LINES],
     pub closed: usize,
-    // Whether `line` is open.
-    pub active: bool,
-    pub line: Line,
+    // The line that is open.
+    pub line: Option<Line>,
     // Whether the book has ended.
     pub ended: bool,
 }
 
-#[derive(Clone, Copy)]
-pub enum Outcome {
-    Done,
-    Refused(Refusal),
-}
-
-// The survey after a command, and what became of the command. Where it was refused, the survey is the one given.
-#[derive(Clone, Copy)]
-pub struct Applied {
-    pub survey: Survey,
-    pub outcome: Outcome,
-}
-
-impl Outcome {
-    // Document 01's number of the refusal, and 0 where there is none.
-    pub fn number(self) -> u8
-        ensures { result ≡ outcome self }
-    {
-        match self {
-            Outcome::Done => 0,
-            Outcome::Refused(why) => why.number(),
-        }
-    }
-}
-
 impl Survey {
     // A survey of which nothing is known yet.
+    #[tactic(auto, unfolding(crate::specs::Survey::fresh))]
     pub fn new() -> Self
         ensures { result ≡ fresh }
     {
-        let undeclared = Species {
-            crown: 0,
-            root: 0,
-            gravity: 0,
-            c1: 0,
-            c2: 0,
-            c3: 0,
-            c4: 0,
-        };
-        let line = Line::new(0, 0, undeclared, 0, 0);
-        let empty = line.empty_row();
-        let species = [undeclared; 16];
-        let factors = [0u8; 101];
-        let rows = [empty; MOST_LINES];
         Survey {
-            species,
-            factors,
-            rows,
+            species: [None; 16],
+            factors: [None; 101],
+            rows: [NO_ROW; MOST_LINES],
             closed: 0,
-            active: false,
-            line,
+            line: None,
             ended: false,
         }
     }
 
-    // The survey with a change stored in its place.
-    fn changed(mut self, change: Change) -> Applied
-        requires { HasPlace change self }
-        ensures { applied result ≡ leaves self (changed change self) }
+    // The rows of the closed lines.
+    pub fn closed_rows(&self) -> &[Row]
+        ensures { result.now ≡ rows_of self.now }
     {
-        let mut outcome = Outcome::Done;
-        match change {
-            Change::Species(id, species) => {
-                let i = id as usize;
-                self.species[i] = species;
-            }
-            Change::Factor(cm, factor) => {
-                let i = cm as usize;
-                self.factors[i] = factor;
-            }
-            Change::Line(line) => {
-                self.line = line;
-                self.active = true;
-            }
-            Change::Row(row) => {
-                let i = self.closed;
-                self.rows[i] = row;
-                self.closed = i + 1;
-                self.active = false;
-            }
-            Change::End => self.ended = true,
-            Change::Refused(why) => outcome = Outcome::Refused(why),
-        }
-        Applied {
-            survey: self,
-            outcome,
-        }
+        self.rows.get(..self.closed).unwrap_or(&self.rows)
     }
 
-    // Any command: what it changes is decided on what it sees of the survey.
-    pub fn apply(self, command: Command) -> Applied
-        ensures { applied result ≡ leaves self (apply command self) }
+    // What a species was declared with, where it was. No id above 15 has a place.
+    fn species_at(&self, id: u8) -> Option<Species>
+        ensures { result ≡ species_at self.now id }
     {
-        let named = names(command);
-        // An id above 15 has the place of another, and no command that names it is taken.
-        let i = (named.species % 16) as usize;
-        let there = self.species[i];
-        let before = if named.line {
-            any_line(self.rows, self.closed, named)
-        } else {
-            false
-        };
-        let seen = Seen {
-            there,
-            before,
-            active: self.active,
-            closed: self.closed,
-            ended: self.ended,
-        };
-        let change = decide(command, seen, self.line, &self.factors);
-        self.changed(change)
+        self.species.get(id as usize).copied().flatten()
+    }
+
+    // The factor at a whole cm, where it was given.
+    fn factor_at(&self, cm: u8) -> Option<u8>
+        ensures { result ≡ factor_at self.now.factors cm }
+    {
+        self.factors.get(cm as usize).copied().flatten()
+    }
+
+    // Whether a line of this stratum and species was closed before.
+    #[tactic(auto, unfolding(crate::specs::Survey::opened))]
+    fn opened(&self, stratum: u8, id: u8) -> bool
+        ensures { result ≡ opened stratum id self.now }
+    {
+        self.closed_rows()
+            .iter()
+            .any(|row| row.stratum == stratum && row.species == id)
+    }
+
+    // 5: the book has ended, first of all.
+    fn unless_ended(&self) -> Result<(), Refusal>
+        ensures { report number result ≡ when self.now.ended 5 (gives tt) }
+    {
+        if self.ended {
+            return Err(Refusal::Ended);
+        }
+        Ok(())
     }
 
     // 01: declares a species.
-    pub fn declare(self, id: u8, species: Species) -> Applied
-        ensures { applied result ≡ leaves self (declare id species self) }
+    #[tactic(auto, unfolding(crate::specs::Survey::declare))]
+    fn take_species(&mut self, id: u8, species: Species) -> Result<(), Refusal>
+        ensures { after number result self.new ≡ leaves self.old (declare id species self.old) }
+    {
+        self.unless_ended()?;
+        declaring(id, species, self.species_at(id))?;
+        self.species[id as usize] = Some(species);
+        Ok(())
+    }
+
+    // 02: gives the factor at a whole cm.
+    #[tactic(auto, unfolding(crate::specs::Survey::give_factor))]
+    fn take_factor(&mut self, cm: u8, factor: u8) -> Result<(), Refusal>
+        ensures { after number result self.new ≡ leaves self.old (give_factor cm factor self.old) }
+    {
+        self.unless_ended()?;
+        giving(cm, factor, self.factor_at(cm))?;
+        self.factors[cm as usize] = Some(factor);
+        Ok(())
+    }
+
+    // 03: opens a line.
+    #[tactic(auto, unfolding(crate::specs::Survey::open_line))]
+    fn take_opening(&mut self, stratum: u8, id: u8, p: u32, q: u32) -> Result<(), Refusal>
+        ensures { after number result self.new ≡ leaves self.old (open_line stratum id p q self.old) }
+    {
+        self.unless_ended()?;
+        let species = opening(
+            p,
+            q,
+            self.line.is_some(),
+            self.species_at(id),
+            self.opened(stratum, id),
+            self.closed,
+        )?;
+        self.line = Some(Line::new(stratum, id, species, p, q));
+        Ok(())
+    }
+
+    // 04: measured trees of the open line.
+    #[tactic(auto, unfolding(crate::specs::Apply::apply_measured))]
+    fn take_measured(&mut self, class: u8, count: u16) -> Result<(), Refusal>
+        ensures { after number result self.new ≡ leaves self.old (apply_measured class count self.old) }
+    {
+        self.unless_ended()?;
+        self.line
+            .as_mut()
+            .ok_or(Refusal::NoLine)?
+            .add_trees(class, count)
+    }
+
+    // 05: a height tree of the open line.
+    #[tactic(auto, unfolding(crate::specs::Apply::apply_height))]
+    fn take_height(&mut self, cm: u8, tenths: u16) -> Result<(), Refusal>
+        ensures { after number result self.new ≡ leaves self.old (apply_height cm tenths self.old) }
+    {
+        self.unless_ended()?;
+        self.line
+            .as_mut()
+            .ok_or(Refusal::NoLine)?
+            .add_height(cm, tenths)
+    }
+
+    // 06: closes the line and keeps its row.
+    #[tactic(auto, unfolding(crate::specs::Apply::apply_close))]
+    fn take_closing(&mut self) -> Result<(), Refusal>
+        ensures { after number result self.new ≡ leaves self.old (apply_close self.old) }
+    {
+        self.unless_ended()?;
+        let line = self.line.as_ref().ok_or(Refusal::NoLine)?;
+        let row = line.row(&self.factors)?;
+        let place = self.closed;
+        // No survey reaches this with a line open.
+        if MOST_LINES <= place {
+            return Err(Refusal::Limit);
+        }
+        self.rows[place] = row;
+        self.closed = place + 1;
+        self.line = None;
+        Ok(())
+    }
+
+    // 07: ends the book.
+    #[tactic(auto, unfolding(crate::specs::Survey::end))]
+    fn take_end(&mut self) -> Result<(), Refusal>
+        ensures { after number result self.new ≡ leaves self.old (end self.old) }
+    {
+        self.unless_ended()?;
+        ending(self.line.is_some())?;
+        self.ended = true;
+        Ok(())
+    }
+
+    // 08: the small trees of the open line.
+    #[tactic(auto, unfolding(crate::specs::Survey::give_small))]
+    fn take_small(&mut self, carbon: u32, count: u32) -> Result<(), Refusal>
+        ensures { after number result self.new ≡ leaves self.old (give_small carbon count self.old) }
+    {
+        self.unless_ended()?;
+        self.line
+            .as_mut()
+            .ok_or(Refusal::NoLine)?
+            .add_small(carbon, count)
+    }
+
+    // Any command, with the survey changed in its place.
+    pub fn take(&mut self, command: Command) -> Result<(), Refusal>
+        ensures { after number result self.new ≡ leaves self.old (apply command self.old) }
+    {
+        match command {
+            Command::Species(id, species) => self.take_species(id, species),
+            Command::Factor { cm, factor } => self.take_factor(cm, factor),
+            Command::Open {
+                stratum,
+                species,
+                p,
+                q,
+            } => self.take_opening(stratum, species, p, q),
+            Command::Measured { class, count } => self.take_measured(class, count),
+            Command::Height { cm, tenths } => self.take_height(cm, tenths),
+            Command::Close => self.take_closing(),
+            Command::End => self.take_end(),
+            Command::Small { carbon, count } => self.take_small(carbon, count),
+        }
+    }
+
+    // Any command. The survey comes back beside what became of the command; where that was refused, it is the one given.
+    pub fn apply(mut self, command: Command) -> (Self, Result<(), Refusal>)
+        ensures { after number result.1 result.0 ≡ leaves self (apply command self) }
+    {
+        let outcome = self.take(command);
+        (self, outcome)
+    }
+
+    // 01: declares a species.
+    pub fn declare(self, id: u8, species: Species) -> (Self, Result<(), Refusal>)
+        ensures { after number result.1 result.0 ≡ leaves self (declare id species self) }
     {
         self.apply(Command::Species(id, species))
     }
 
     // 02: gives the factor at a whole cm.
-    pub fn give_factor(self, cm: u8, factor: u8) -> Applied
-        ensures { applied result ≡ leaves self (give_factor cm factor self) }
+    pub fn give_factor(self, cm: u8, factor: u8) -> (Self, Result<(), Refusal>)
+        ensures { after number result.1 result.0 ≡ leaves self (give_factor cm factor self) }
     {
         self.apply(Command::Factor { cm, factor })
     }
 
     // 03: opens a line.
-    pub fn open_line(self, stratum: u8, id: u8, p: u32, q: u32) -> Applied
-        ensures { applied result ≡ leaves self (open_line stratum id p q self) }
+    pub fn open_line(self, stratum: u8, id: u8, p: u32, q: u32) -> (Self, Result<(), Refusal>)
+        ensures { after number result.1 result.0 ≡ leaves self (open_line stratum id p q self) }
     {
         self.apply(Command::Open {
             stratum,
@@ -166,36 +261,36 @@ impl Survey {
     }
 
     // 04: measured trees of the open line.
-    pub fn measure(self, class: u8, count: u16) -> Applied
-        ensures { applied result ≡ leaves self (apply_measured class count self) }
+    pub fn measure(self, class: u8, count: u16) -> (Self, Result<(), Refusal>)
+        ensures { after number result.1 result.0 ≡ leaves self (apply_measured class count self) }
     {
         self.apply(Command::Measured { class, count })
     }
 
     // 05: a height tree of the open line.
-    pub fn give_height(self, cm: u8, tenths: u16) -> Applied
-        ensures { applied result ≡ leaves self (apply_height cm tenths self) }
+    pub fn give_height(self, cm: u8, tenths: u16) -> (Self, Result<(), Refusal>)
+        ensures { after number result.1 result.0 ≡ leaves self (apply_height cm tenths self) }
     {
         self.apply(Command::Height { cm, tenths })
     }
 
     // 06: closes the line and keeps its row.
-    pub fn close(self) -> Applied
-        ensures { applied result ≡ leaves self (apply_close self) }
+    pub fn close(self) -> (Self, Result<(), Refusal>)
+        ensures { after number result.1 result.0 ≡ leaves self (apply_close self) }
     {
         self.apply(Command::Close)
     }
 
     // 07: ends the book.
-    pub fn end(self) -> Applied
-        ensures { applied result ≡ leaves self (end self) }
+    pub fn end(self) -> (Self, Result<(), Refusal>)
+        ensures { after number result.1 result.0 ≡ leaves self (end self) }
     {
         self.apply(Command::End)
     }
 
     // 08: the small trees of the open line.
-    pub fn give_small(self, carbon: u32, count: u32) -> Applied
-        ensures { applied result ≡ leaves self (give_small carbon count self) }
+    pub fn give_small(self, carbon: u32, count: u32) -> (Self, Result<(), Refusal>)
+        ensures { after number result.1 result.0 ≡ leaves self (give_small carbon count self) }
     {
         self.apply(Command::Small { carbon, count })
     }

@@ -19,7 +19,7 @@ use Rattle.biomass.specs.SmallTrees.{small_of, small_trees}
 use Rattle.biomass.specs.Project.{project, project_of, greatest_sum}
 use Rattle.biomass.proofs.Law.Report.{true_inside}
 use Rattle.biomass.proofs.Law.Tree.{Operands}
-use Rattle.biomass.specs.declared.units.BiomassRange.{BiomassRange}
+use Rattle.biomass.specs.Units.{BiomassRange}
 use Rattle.biomass.specs.declared.tree.AverageTree.{AverageTree}
 
 -- one check that is passed

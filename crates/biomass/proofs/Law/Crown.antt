@@ -1,12 +1,12 @@
 -- Laws of the crown: facts of its table, computed row by row, and the bounds of its ends that follow (Law.Ends).
-use Rattle.std.specs.Prelude.{ℕ, zero, suc, ◌≤◌, ◌<◌, ◌^◌, refl, pos, ◌≤ℤ◌}
+use Rattle.std.specs.Prelude.{ℕ, zero, suc, ◌≤◌, ◌<◌, ◌^◌, refl, [], get_or, pos, ◌≤ℤ◌}
 use Rattle.std.proofs.Common.{arith, lit≤, lit<}
-use Rattle.biomass.specs.Bounds.{Rising, crown_top, greatest_crown}
+use Rattle.biomass.specs.Bounds.{Rising, SoundRow, crown_top, greatest_crown}
 use Rattle.powers.specs.Diameter.{greatest_d, crown_limit}
 use Rattle.biomass.specs.Crown.{crown_table, k, a, b, crown_ends}
 use Rattle.powers.specs.Crown.{w}
 use Rattle.biomass.proofs.Law.Power.{greatest_w, w_most}
-use Rattle.biomass.proofs.Law.Ends.{Bounded, Coefficient, Group, group, coefficient_not_below, line_rising, part_bounded}
+use Rattle.biomass.proofs.Law.Ends.{Bounded, Coefficient, Group, group, coefficient_not_below, line_rising, part_bounded, sound_row}
 
 -- the table's greatest k
 abbrev pub greatest_k : ℕ
@@ -26,6 +26,9 @@ crown_group_lem (suc (suc (suc (suc (suc (suc (suc (suc g)))))))) h = absurd (om
 
 pub crown_k : (g : ℕ) → g ≤ 7 → Coefficient (k g) greatest_k
 crown_k g h = (crown_group_lem g h).coefficient
+
+pub crown_sound : (g : ℕ) → g ≤ 7 → SoundRow crown_limit (get_or crown_table g [])
+crown_sound g h = sound_row (crown_group_lem g h) (lit< tt)
 
 -- none is below 0, also of a group that is not in the table
 pub crown_k_not_below : (g : ℕ) → (pos 0) ≤ℤ (k g)

@@ -4,7 +4,7 @@ use Rattle.std.specs.Prelude.{ℕ, zero, suc, ◌+◌, ◌-◌, ◌*◌, ◌/◌
 use Rattle.std.proofs.Common.{le_trans, lt_of_le_of_lt, mul-le-mul, mul-le-mul_left, div-mul-le_self, le-div_iff_mul-le, div-lt_iff_lt-mul, arith, sym, subst, lit≤, leb-true, leb-false}
 use Rattle.std.proofs.Math.Nat.{lt-div-mul-add}
 use Rattle.std.specs.Int.Signed.{le_z, le_z_yes}
-use Rattle.biomass.specs.Bounds.{Rising}
+use Rattle.biomass.specs.Bounds.{Rising, SoundRow}
 use Rattle.biomass.specs.Whole.{◌div◌}
 use Rattle.powers.specs.Diameter.{units_to_cm, greatest_d}
 use Rattle.biomass.specs.Ends.{Ends, entry, curve, straight}
@@ -92,6 +92,16 @@ module _ {start rise : ℤ} {from top : ℕ} (line : Line start rise from top) (
 pub record Group (k start rise : ℤ) (most from top : ℕ) : Type 0 where
   pub coefficient : Coefficient k most
   pub line : Line start rise from top
+
+-- so it is sound, where the table's coefficients are small
+pub sound_row : {row : List ℤ} {most from top : ℕ} → Group (get_or row 0 (pos 0)) (get_or row 1 (pos 0)) (get_or row 2 (pos 0)) most from top
+    → most < 2 ^ 20 → SoundRow from row
+sound_row g few =
+    record {
+      is_whole = g.coefficient.is_whole;
+      small = lt_of_le_of_lt g.coefficient.small few;
+      rising = λ d after d_small. line_rising g.line d after d_small;
+    }
 
 -- For a row of literals each test is computed
 pub group : {k start rise most from top : ℕ} → T (leb k most) → T (leb (units_to_cm * suc start) (rise * suc from))

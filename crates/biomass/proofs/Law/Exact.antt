@@ -25,7 +25,7 @@ use Rattle.biomass.proofs.Law.Crown.{crown_k, crown_k_not_below}
 use Rattle.biomass.proofs.Law.Root.{root_b, root_b_not_below}
 use Rattle.biomass.proofs.Law.StemExact.{stem_not_under, stem_not_over}
 use Rattle.biomass.proofs.Law.Tree.{tree_gives, parts_bounded, row_gives}
-use Rattle.biomass.specs.declared.units.BiomassRange.{BiomassRange}
+use Rattle.biomass.specs.Units.{BiomassRange}
 use Rattle.biomass.specs.declared.tree.AverageTree.{AverageTree}
 
 -- ---- denominators are above 0, so that `≼` says of these fractions what it seems to say

@@ -1,14 +1,10 @@
 -- Laws of the checks that a report is made of: what a test that passed or failed says, and which report follows.
-use Rattle.std.specs.Prelude.{ℕ, ◌≤◌, ◌≡◌, refl, Bool, true, false, not, cond, leb}
+use Rattle.std.specs.Prelude.{ℕ, ◌≤◌, ◌≡◌, refl, Bool, true, false, not, cond, leb, Result, Ok, Err}
 use Rattle.std.proofs.Common.{◌∙◌, sym, ap, leb-true, le-leb}
 use Rattle.std.proofs.lemmas.Bool.{false≢true, not-true, not-false}
 use Rattle.biomass.specs.Bounds.{Inside}
 use Rattle.biomass.specs.Whole.{inside}
-use Rattle.biomass.specs.Report.{Report, refused, gives, unless, when, ◌then◌, refusal_number, count, biomass}
-use Rattle.biomass.specs.declared.units.BiomassRange.{BiomassRange}
-use Rattle.biomass.specs.declared.report.Refusal.{Refusal}
-use Rattle.biomass.specs.declared.report.Count.{Count}
-use Rattle.biomass.specs.declared.report.Biomass.{Biomass}
+use Rattle.biomass.specs.Report.{Report, refused, gives, unless, when, ◌then◌, report}
 
 -- a test of two parts
 pub both_true : (s t : Bool) → cond s t false ≡ true → (s ≡ true) × (t ≡ true)
@@ -72,19 +68,12 @@ pub ranges : {answer : Bool} {lo x hi : ℕ} → not answer ≡ false → answer
 ranges t e = in_range e t
 
 -- what is made of the figure that a routine answers; and of what it declines, whose number is handed on
-module _ {A : Type 0} {first : Report ℕ} {answer : Count} (f : ℕ → Report A) (promise : count answer ≡ first) where
-  pub follows_count : {a : ℕ} {x : Report A} → answer ≡ Count.Is a → x ≡ f a → x ≡ (first then f)
-  follows_count is = follows first f (sym promise ∙ ap count is)
+module _ {A B E : Type 0} (number : E → ℕ) {first : Report A} {answer : Result A E} (f : A → Report B) (promise : report number answer ≡ first) where
+  pub follows_figure : {a : A} {x : Report B} → answer ≡ Ok a → x ≡ f a → x ≡ (first then f)
+  follows_figure is = follows first f (sym promise ∙ ap (report number) is)
 
-  pub stops_count : {why : Refusal} {n : ℕ} → answer ≡ Count.Refused why → n ≡ refusal_number why → refused n ≡ (first then f)
-  stops_count is number = ap refused number ∙ stops first f (sym promise ∙ ap count is)
-
-module _ {A : Type 0} {first : Report BiomassRange} {answer : Biomass} (f : BiomassRange → Report A) (promise : biomass answer ≡ first) where
-  pub follows_biomass : {m : BiomassRange} {x : Report A} → answer ≡ Biomass.Is m → x ≡ f m → x ≡ (first then f)
-  follows_biomass is = follows first f (sym promise ∙ ap biomass is)
-
-  pub stops_biomass : {why : Refusal} {n : ℕ} → answer ≡ Biomass.Refused why → n ≡ refusal_number why → refused n ≡ (first then f)
-  stops_biomass is number = ap refused number ∙ stops first f (sym promise ∙ ap biomass is)
+  pub stops_figure : {why : E} {n : ℕ} → answer ≡ Err why → n ≡ number why → refused n ≡ (first then f)
+  stops_figure is same = ap refused same ∙ stops first f (sym promise ∙ ap (report number) is)
 
 -- a figure that a routine worked out, as its promise says
 pub given : {A : Type 0} {a b : A} → a ≡ b → gives a ≡ gives b

@@ -1,11 +1,11 @@
 -- Laws of the root: facts of its table, computed row by row, and the bounds of its ends that follow (Law.Ends).
-use Rattle.std.specs.Prelude.{ℕ, zero, suc, ◌≤◌, ◌<◌, ◌^◌, refl, pos, ◌≤ℤ◌}
+use Rattle.std.specs.Prelude.{ℕ, zero, suc, ◌≤◌, ◌<◌, ◌^◌, refl, [], get_or, pos, ◌≤ℤ◌}
 use Rattle.std.proofs.Common.{arith, lit≤, lit<}
-use Rattle.biomass.specs.Bounds.{Rising, greatest_root, root_top}
+use Rattle.biomass.specs.Bounds.{Rising, SoundRow, greatest_root, root_top}
 use Rattle.powers.specs.Diameter.{greatest_d, root_limit}
 use Rattle.biomass.specs.Root.{root_table, curve_b, line_a, line_b, y, root_ends}
 use Rattle.biomass.proofs.Law.Power.{greatest_y, y_most}
-use Rattle.biomass.proofs.Law.Ends.{Bounded, Coefficient, Group, group, coefficient_not_below, line_rising, part_bounded}
+use Rattle.biomass.proofs.Law.Ends.{Bounded, Coefficient, Group, group, coefficient_not_below, line_rising, part_bounded, sound_row}
 
 -- the curves' greatest b
 abbrev pub greatest_b : ℕ
@@ -23,6 +23,9 @@ root_group_lem (suc (suc (suc (suc (suc (suc g)))))) h = absurd (omega arith)
 
 pub root_b : (g : ℕ) → g ≤ 5 → Coefficient (curve_b g) greatest_b
 root_b g h = (root_group_lem g h).coefficient
+
+pub root_sound : (g : ℕ) → g ≤ 5 → SoundRow root_limit (get_or root_table g [])
+root_sound g h = sound_row (root_group_lem g h) (lit< tt)
 
 -- none is below 0, also of a group that is not in the table
 pub root_b_not_below : (g : ℕ) → (pos 0) ≤ℤ (curve_b g)

@@ -1,7 +1,7 @@
 -- Laws of ℤ. Every whole number z is a difference p − q of two naturals, in many ways: `Diff z p q`. A sum, a negation, a product and an
 -- order of whole numbers are then those of naturals, which `omega` and the laws of ℕ prove: `le_from (add (mul ..) ..) (mul ..) (omega ..)`.
 use Rattle.std.specs.Prelude.{ℕ, zero, suc, ◌+◌, ◌-◌, ◌*◌, ◌≤◌, ◌<◌, Bool, true, false, ◌≡◌, refl, ltb, ℤ, pos, negsuc, neg_ℤ, ◌+ℤ◌, ◌-ℤ◌, ◌*ℤ◌, nat_abs, ◌≤ℤ◌, ◌<ℤ◌}
-use Rattle.std.proofs.Common.{le_of_lt, arith, sym, ap, subst, ltb→lt, leb→le, le→leb, ltb-true, ltb-false, lt-ltb, le-ltb}
+use Rattle.std.proofs.Common.{le_of_lt, mul_assoc, arith, sym, ap, subst, ltb→lt, leb→le, le→leb, ltb-true, ltb-false, lt-ltb, le-ltb}
 use Rattle.std.proofs.Math.IntN.{sub_ℕ}
 
 -- z + q is p, said in ℕ
@@ -83,6 +83,9 @@ mul {a = negsuc a} {b = negsuc b} d e = rw (← d.balance, ← e.balance) (recor
 -- a product by a natural
 pub times : {a : ℤ} {p q : ℕ} → Diff a p q → (n : ℕ) → Diff (a *ℤ pos n) (p * n) (q * n)
 times d n = shifted (mul d (parts (pos n))) (omega arith)
+
+pub times_times : (a : ℤ) (m n : ℕ) → a *ℤ pos (m * n) ≡ a *ℤ pos m *ℤ pos n
+times_times a m n = same (times (parts a) (m * n)) (times (times (parts a) m) n) (simp mul_assoc)
 
 -- ---- the order, from that of naturals and back
 

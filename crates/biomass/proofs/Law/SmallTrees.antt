@@ -11,7 +11,7 @@ use Rattle.biomass.specs.Exact.{exact_small}
 use Rattle.biomass.proofs.Law.Fraction.{≼_refl, share_not_under, share_not_over, no_share}
 use Rattle.biomass.proofs.Law.Gives.{passed, figure_is}
 use Rattle.biomass.proofs.Law.Project.{none_or_some}
-use Rattle.biomass.specs.declared.units.BiomassRange.{BiomassRange}
+use Rattle.biomass.specs.Units.{BiomassRange}
 
 module _ (number carbon : ℕ) where
   -- "Not over the high", also where there are none and no 1 is added

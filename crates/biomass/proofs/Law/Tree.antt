@@ -15,7 +15,7 @@ use Rattle.biomass.proofs.Law.Ends.{Bounded}
 use Rattle.biomass.proofs.Law.Stem.{stem_bounded}
 use Rattle.biomass.proofs.Law.Crown.{crown_bounded}
 use Rattle.biomass.proofs.Law.Root.{root_bounded}
-use Rattle.biomass.specs.declared.units.BiomassRange.{BiomassRange}
+use Rattle.biomass.specs.Units.{BiomassRange}
 use Rattle.biomass.specs.declared.tree.AverageTree.{AverageTree}
 
 -- ---- one tree

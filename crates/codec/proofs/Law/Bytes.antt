@@ -88,6 +88,10 @@ number_past_end (suc k) s i past = rw (← byte_past_end s i past, ← number_pa
 pub byte_alone : (n : ℕ) → n < 256 → n / 256 ^ 0 % 256 ≡ n
 byte_alone n fits = rw (div-one, mod-eq_of_lt fits)
 
+-- the last byte of a number
+pub last_byte : (n : ℕ) → n / 256 ^ 0 % 256 ≡ n % 256
+last_byte n = ap (◌% 256) (div-one n)
+
 pub length_bytes : (k n : ℕ) → length (bytes k n) ≡ k
 length_bytes zero n = refl
 length_bytes (suc k) n = ap suc (length_bytes k n)

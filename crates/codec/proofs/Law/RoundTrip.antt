@@ -22,8 +22,8 @@ use Rattle.codec.specs.declared.command.Command.TheVariants.{Species, Factor, Op
 pub each_encoded : (c : Command) → Fits c → EachByte (encode c)
 each_encoded (Species id s) f =
     one_byte {x = 1} (omega arith) (one_byte f.0 (one_byte f.1.crown (one_byte f.1.root (one_byte f.1.gravity
-    (each_append (each_append (each_append (bytes_below 4 (unsigned s.c1)) (bytes_below 4 (unsigned s.c2))) (bytes_below 4 (unsigned s.c3)))
-    (bytes_below 4 (unsigned s.c4)))))))
+    (each_append (each_append (each_append (bytes_below 4 (unsigned s.constants.c1)) (bytes_below 4 (unsigned s.constants.c2))) (bytes_below 4 (unsigned s.constants.c3)))
+    (bytes_below 4 (unsigned s.constants.c4)))))))
 each_encoded (Factor cm factor) f = one_byte {x = 2} (omega arith) (one_byte f.0 (one_byte f.1 no_byte))
 each_encoded (Open stratum species p q) f =
     one_byte {x = 3} (omega arith) (one_byte f.0 (one_byte f.1 (each_append (bytes_below 4 p) (bytes_below 4 q))))
@@ -58,18 +58,19 @@ pub read_encoded : (s : List ℕ) (at : ℕ) (c : Command) → Fits c → Stands
     → read s at ≡ gives (c, at + length (encode c))
 unfolding command_from species_from factor_from open_from measured_from height_from small_from
 read_encoded s at (Species id sp) f (before b (before e₁ (before e₂ (before e₃ (before e₄ h))))) enough =
-    let b₁ = bytes 4 (unsigned sp.c1) in
-    let b₂ = bytes 4 (unsigned sp.c2) in
-    let b₃ = bytes 4 (unsigned sp.c3) in
-    let b₄ = bytes 4 (unsigned sp.c4) in
+    let x = sp.constants in
+    let b₁ = bytes 4 (unsigned x.c1) in
+    let b₂ = bytes 4 (unsigned x.c2) in
+    let b₃ = bytes 4 (unsigned x.c3) in
+    let b₄ = bytes 4 (unsigned x.c4) in
     let three = stands_first (b₁ ++ b₂ ++ b₃) b₄ h in
     let two = stands_first (b₁ ++ b₂) b₃ three in
     let root : byte s (at + 1 + 2) ≡ sp.root = ap (byte s) (omega arith) ∙ e₃ in
     let gravity : byte s (at + 1 + 3) ≡ sp.gravity = ap (byte s) (omega arith) ∙ e₄ in
-    let c₁ = signed_of_bytes sp.c1 s (at + 1 + 4) f.1.c1 (stands_at (stands_first b₁ b₂ two) (omega arith)) in
-    let c₂ = signed_of_bytes sp.c2 s (at + 1 + 8) f.1.c2 (stands_at (stands_second b₁ b₂ two) (omega arith)) in
-    let c₃ = signed_of_bytes sp.c3 s (at + 1 + 12) f.1.c3 (stands_at (stands_second (b₁ ++ b₂) b₃ three) (omega arith)) in
-    let c₄ = signed_of_bytes sp.c4 s (at + 1 + 16) f.1.c4 (stands_at (stands_second (b₁ ++ b₂ ++ b₃) b₄ h) (omega arith)) in
+    let c₁ = signed_of_bytes x.c1 s (at + 1 + 4) f.1.c1 (stands_at (stands_first b₁ b₂ two) (omega arith)) in
+    let c₂ = signed_of_bytes x.c2 s (at + 1 + 8) f.1.c2 (stands_at (stands_second b₁ b₂ two) (omega arith)) in
+    let c₃ = signed_of_bytes x.c3 s (at + 1 + 12) f.1.c3 (stands_at (stands_second (b₁ ++ b₂) b₃ three) (omega arith)) in
+    let c₄ = signed_of_bytes x.c4 s (at + 1 + 16) f.1.c4 (stands_at (stands_second (b₁ ++ b₂ ++ b₃) b₄ h) (omega arith)) in
     read_by s at 1 (omega arith) b ∙ with_operands_gives s (at + 1) 20 _ (omega arith) ∙ rw (e₁, e₂, root, gravity, c₁, c₂, c₃, c₄, add_assoc at 1 20)
 read_encoded s at (Factor cm factor) f (before b (before e₁ (before e₂ h))) enough =
     read_by s at 2 (omega arith) b ∙ with_operands_gives s (at + 1) 2 _ (omega arith) ∙ cc (add_assoc at 1 2)

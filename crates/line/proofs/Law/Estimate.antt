@@ -15,7 +15,7 @@ use Rattle.biomass.proofs.Law.Exact.{row_den, row_not_under, row_not_over}
 use Rattle.biomass.proofs.Law.Tree.{RowBounds, none_bounds, row_bounds}
 use Rattle.biomass.proofs.Law.SmallTrees.{small_bounds, small_not_under, small_not_over, small_den}
 use Rattle.biomass.proofs.Law.Project.{none_or_some}
-use Rattle.biomass.specs.declared.units.BiomassRange.{BiomassRange}
+use Rattle.biomass.specs.Units.{BiomassRange}
 use Rattle.biomass.specs.declared.tree.AverageTree.{AverageTree}
 use Rattle.line.specs.Line.{Estimate, both_numbers, biomass_of}
 use Rattle.line.specs.Exact.{exact_of}

@@ -1,7 +1,7 @@
 -- A line's command and its neighbour, another or a declaration, are taken in the one order where they are in the other, and come to the same survey (`exchanged`).
--- Each has a part of the survey: measured trees, height trees, small trees, species, factors. Of two with the same part both add to its sums, or, of small trees,
--- neither order is taken.
-use Rattle.std.specs.Prelude.{ℕ, ◌+◌, ◌*◌, ◌<◌, ◌≡◌, refl, Bool, true, false, set, leb, ltb}
+-- Each has a part of the line: measured trees, height trees, small trees; or of the survey: species, factors. Of two with the same part both add to its sums, or, of
+-- small trees, neither order is taken.
+use Rattle.std.specs.Prelude.{ℕ, ◌+◌, ◌*◌, ◌<◌, ◌≡◌, refl, Bool, true, false, Some, is_some, set, leb, ltb}
 use Rattle.std.proofs.Common.{lt_of_not-le, arith, ◌∙◌, sym, ap, ap₂, true≢false, le-leb, lt-ltb}
 use Rattle.std.proofs.Math.Decide.{dec_le}
 use Rattle.std.proofs.lemmas.Bool.{lt-leb}
@@ -9,13 +9,14 @@ use Rattle.biomass.specs.Whole.{inside}
 use Rattle.biomass.specs.Report.{Report, refused, gives, unless, ◌then◌, when}
 use Rattle.biomass.specs.Limits.{most_measured, most_heights, most_small}
 use Rattle.biomass.proofs.Law.Report.{inside_true}
-use Rattle.biomass.proofs.Law.SameChecks.{then_same, when_then, unless_then, then_then}
+use Rattle.biomass.proofs.Law.SameChecks.{when_same, then_same, when_then, unless_then, then_then}
 use Rattle.rules.specs.Checks.{declaring, giving}
-use Rattle.line.specs.Line.{line_with, tallied, tariff_of, factor_at, add_small}
+use Rattle.line.specs.Line.{line_with, tallied, with_trees, with_height, tariff_of, factor_at, add_small}
 use Rattle.line.proofs.Law.SmallTrees.{small_alone_lem}
-use Rattle.survey.specs.Survey.{no_line, with_tables, with_line, declared, declare, give_factor, measure, give_height, give_small}
+use Rattle.survey.specs.Survey.{with_tables, declared, declare, give_factor, measure, give_height, give_small}
+use Rattle.survey.specs.Apply.{on_line}
 use Rattle.survey.specs.AsWritten.{as_written}
-use Rattle.survey.proofs.Law.Checks.{Gives, gives_such, when_such, unless_such, then_such, passed}
+use Rattle.survey.proofs.Law.Checks.{Gives, then_such, passed, given_same}
 use Rattle.codec.specs.declared.command.Species.{Species}
 use Rattle.codec.specs.declared.command.Command.{Command}
 use Rattle.line.specs.declared.line.Tally.{Tally}
@@ -24,66 +25,68 @@ use Rattle.line.specs.declared.line.SmallTrees.{SmallTrees}
 use Rattle.line.specs.declared.line.Line.{Line}
 use Rattle.survey.specs.declared.survey.Survey.{Survey}
 use Rattle.order.specs.Order.{of_line, parts}
-use Rattle.order.proofs.Law.Part.{unnumbered, Exchanges, Part, beside, note, Note, within}
+use Rattle.order.proofs.Law.Part.{unnumbered, Exchanges, exchanges_same, Part, beside, note, Note, within, line_part, of_open_line}
 
--- ---- the commands of a line
-
--- the open line with other measured, height or small trees
-abbrev put_tally : Tally → Survey → Survey
-put_tally t s = with_line s (line_with s.line t s.line.heights s.line.small)
-
-abbrev put_heights : Heights → Survey → Survey
-put_heights h s = with_line s (line_with s.line s.line.tally h s.line.small)
-
-abbrev put_small : SmallTrees → Survey → Survey
-put_small m s = with_line s (line_with s.line s.line.tally s.line.heights m)
-
-abbrev on_line : {I : Type 0} → Report I → Survey → Report I
-on_line operands s = when s.ended 5 (unless s.active 10 operands)
+-- ---- the commands of a line, by what they make of it
 
 ruleset thens = (when_then, unless_then, then_then, then_same)
 
+-- a line with other measured, height or small trees
+abbrev put_tally : Tally → Line → Line
+put_tally t l = line_with l t l.heights l.small
+
+abbrev put_heights : Heights → Line → Line
+put_heights h l = line_with l l.tally h l.small
+
+abbrev put_small : SmallTrees → Line → Line
+put_small m l = line_with l l.tally l.heights m
+
 -- measured trees
-abbrev counted : ℕ → ℕ → Survey → Report (ℕ × ℕ)
-counted class count = on_line (unless (inside 7 class 100) 6 (unless (leb 1 count) 6 (gives (class, count))))
+abbrev counted : ℕ → ℕ → Line → Report (ℕ × ℕ)
+counted class count l = unless (inside 7 class 100) 6 (unless (leb 1 count) 6 (gives (class, count)))
 
 abbrev add_counted : ℕ × ℕ → Tally → Report Tally
 add_counted i t = unless (leb (t.n + i.1) most_measured) 11 (gives (tallied i.0 i.1 t))
 
-measured_note : (class count : ℕ) → Note (counted class count) add_counted (λ s. s.line.tally) put_tally (measure class count)
-unfolding measure
-measured_note class count = note (counted class count) add_counted _ put_tally (λ s. search thens depth 14)
+abbrev note_measured : ℕ → ℕ → Line → Report Line
+note_measured class count l =
+    unless (inside 7 class 100) 6
+    (unless (leb 1 count) 6
+    (unless (leb (l.tally.n + count) most_measured) 11
+    (gives (with_trees class count l))))
+
+measured_note : (class count : ℕ) → Note (counted class count) add_counted (λ l. l.tally) put_tally (note_measured class count)
+measured_note class count = note (counted class count) add_counted _ put_tally (λ l. search thens depth 14)
 
 -- height trees
-abbrev tariff_at : ℕ → ℕ → Survey → Report ℕ
-tariff_at cm tenths s = on_line (tariff_of s.line.species cm tenths) s
+abbrev tariff_at : ℕ → ℕ → Line → Report ℕ
+tariff_at cm tenths l = tariff_of l.species cm tenths
 
 abbrev add_tariff : ℕ → Heights → Report Heights
 add_tariff T h = when (leb most_heights h.number) 11 (gives (record { number = h.number + 1; tariffs = h.tariffs + T }))
 
-height_note : (cm tenths : ℕ) → Note (tariff_at cm tenths) add_tariff (λ s. s.line.heights) put_heights (give_height cm tenths)
-unfolding give_height
-height_note cm tenths = note (tariff_at cm tenths) add_tariff _ put_heights (λ s. search thens depth 14)
+abbrev note_height : ℕ → ℕ → Line → Report Line
+note_height cm tenths l =
+    tariff_of l.species cm tenths then λ T.
+    when (leb most_heights l.heights.number) 11
+    (gives (with_height T l))
+
+height_note : (cm tenths : ℕ) → Note (tariff_at cm tenths) add_tariff (λ l. l.heights) put_heights (note_height cm tenths)
+height_note cm tenths = note (tariff_at cm tenths) add_tariff _ put_heights (λ l. search thens depth 14)
 
 -- small trees, which are looked at with nothing else noted of the line
 abbrev small_alone : Line → Line
-small_alone l = line_with l no_line.tally no_line.heights l.small
+small_alone l = line_with l (record { n = 0; squares = 0 }) (record { number = 0; tariffs = 0 }) l.small
 
-abbrev small_given : ℕ → ℕ → Survey → Report SmallTrees
-small_given carbon count s = on_line (add_small carbon count (small_alone s.line) then λ m. gives m.small) s
+abbrev small_given : ℕ → ℕ → Line → Report SmallTrees
+small_given carbon count l = add_small carbon count (small_alone l) then λ m. gives m.small
 
-small_part_lem : (carbon count : ℕ) → Part (small_given carbon count) put_small (give_small carbon count)
-unfolding give_small
+small_part_lem : (carbon count : ℕ) → Part (small_given carbon count) put_small (add_small carbon count)
 small_part_lem carbon count =
     record {
-      is = λ s.
-          let l = s.line in
-          let answer = add_small carbon count (small_alone l) in
-          when_then _ s.ended 5 _ _ (λ not_ended.
-          unless_then _ s.active 10 _ _ (λ is_open.
-          then_then (λ m. gives (put_small m s)) answer (λ m. gives m.small) _ (λ m taken. refl)
-          ∙ sym (then_then (λ m. gives (with_line s m)) answer (λ m. gives (line_with l l.tally l.heights m.small)) _ (λ m taken. refl))
-          ∙ ap (λ (r : Report Line). r then λ m. gives (with_line s m)) (small_alone_lem carbon count (small_alone l) l.tally l.heights)));
+      is = λ l.
+          then_then (λ m. gives (put_small m l)) (add_small carbon count (small_alone l)) (λ m. gives m.small) _ (λ m taken. refl)
+          ∙ small_alone_lem carbon count (small_alone l) l.tally l.heights;
     }
 
 -- ---- two of a kind
@@ -136,32 +139,24 @@ none_again : (carbon count : ℕ) (l : Line) → ltb 0 l.small.count ≡ true �
 unfolding add_small
 none_again carbon count l given = let clash : ltb 0 l.small.count ≡ false → ⊥ = λ none. true≢false (sym given ∙ none) in search (passed, clash) depth 8
 
-small_such : (carbon count : ℕ) (s : Survey) (such : Survey → Type 0) → Gives (λ m. such (with_line s m)) (add_small carbon count s.line)
-    → Gives such (give_small carbon count s)
-unfolding give_small
-small_such carbon count s such h =
-    when_such such s.ended 5 _ (λ not_ended.
-    unless_such such s.active 10 _ (λ is_open.
-    then_such such (add_small carbon count s.line) _ (λ m gave. gives_such such (with_line s m) (h m gave))))
-
 none_given : {A : Type 0} (r : Report A) → Gives (λ a. ⊥) r → unnumbered r ≡ refused 0
 none_given (refused n) none = refl
 none_given (gives a) none = absurd (none a refl)
 
-small_twice : (a i b j : ℕ) (s : Survey) → unnumbered (give_small a i s then give_small b j) ≡ refused 0
-small_twice a i b j s =
-    none_given _ (then_such (λ u. ⊥) (give_small a i s) (give_small b j)
-    (small_such a i s _ (λ m gave. small_such b j (with_line s m) _ (none_again b j m (first_given a i s.line m gave)))))
+small_twice : (a i b j : ℕ) (l : Line) → unnumbered (add_small a i l then add_small b j) ≡ refused 0
+small_twice a i b j l =
+    none_given _ (then_such (λ u. ⊥) (add_small a i l) (add_small b j) (λ m gave. none_again b j m (first_given a i l m gave)))
 
 -- ---- declarations
 
 species_part : (id : ℕ) (x : Species)
-    → Part (λ s. when s.ended 5 (declaring id x (declared id s) (gives (set s.species id x)))) (λ l s. with_tables s l s.factors) (declare id x)
+    → Part (λ s. when s.ended 5 (declaring id x (declared id s) (gives (set s.species id (Some x))))) (λ l s. with_tables s l s.factors) (declare id x)
 unfolding declare
 species_part id x = record { is = λ s. search thens depth 8 }
 
 factor_part : (cm x : ℕ)
-    → Part (λ s. when s.ended 5 (giving cm x (ltb 0 (factor_at s.factors cm)) (gives (set s.factors cm x)))) (λ l s. with_tables s s.species l) (give_factor cm x)
+    → Part (λ s. when s.ended 5 (giving cm x (is_some (factor_at s.factors cm)) (gives (set s.factors cm (Some x))))) (λ l s. with_tables s s.species l)
+    (give_factor cm x)
 unfolding give_factor
 factor_part cm x = record { is = λ s. search thens depth 8 }
 
@@ -173,31 +168,44 @@ pub data OfLine : Command → Type 0 where
   height : (cm tenths : ℕ) → OfLine (Command.Height cm tenths)
   small : (carbon count : ℕ) → OfLine (Command.Small carbon count)
 
+-- what each makes of the open line
+abbrev note_of : {c : Command} → OfLine c → Line → Report Line
+note_of (measured class count) = note_measured class count
+note_of (height cm tenths) = note_height cm tenths
+note_of (small carbon count) = add_small carbon count
+
+as_noted : {c : Command} (m : OfLine c) (s : Survey) → on_line (note_of m) s ≡ as_written c s
+unfolding measure give_height give_small
+as_noted (measured class count) s = when_same s.ended 5 _ _ (λ not_ended. given_same s.line 10 _ _ (λ l is_open. search thens depth 14))
+as_noted (height cm tenths) s = when_same s.ended 5 _ _ (λ not_ended. given_same s.line 10 _ _ (λ l is_open. search thens depth 14))
+as_noted (small carbon count) s = refl
+
 -- two of a line, of one kind
-kind_exchange : {a b : Command} → OfLine a → OfLine b → Exchanges (as_written a) (as_written b)
-kind_exchange (measured a i) (measured b j) =
-    within (measured_note a i) (measured_note b j) (λ x s. refl) (λ x s. refl) counts_either
-kind_exchange (height a i) (height b j) =
-    within (height_note a i) (height_note b j) (λ x s. refl) (λ x s. refl) tariffs_either
-kind_exchange (small a i) (small b j) = λ s. small_twice a i b j s ∙ sym (small_twice b j a i s)
+line_exchange : {a b : Command} (m : OfLine a) (n : OfLine b) → Exchanges (note_of m) (note_of n)
+line_exchange (measured a i) (measured b j) =
+    within (measured_note a i) (measured_note b j) (λ x l. refl) (λ x l. refl) counts_either
+line_exchange (height a i) (height b j) =
+    within (height_note a i) (height_note b j) (λ x l. refl) (λ x l. refl) tariffs_either
+line_exchange (small a i) (small b j) = λ l. small_twice a i b j l ∙ sym (small_twice b j a i l)
 -- and of two: neither looks at what the other adds to
-kind_exchange (measured a i) (height b j) = beside (measured_note a i).part (height_note b j).part (λ x s. refl) (λ y s. refl) (λ x y s. refl)
-kind_exchange (measured a i) (small b j) = beside (measured_note a i).part (small_part_lem b j) (λ x s. refl) (λ y s. refl) (λ x y s. refl)
-kind_exchange (height a i) (measured b j) = beside (height_note a i).part (measured_note b j).part (λ x s. refl) (λ y s. refl) (λ x y s. refl)
-kind_exchange (height a i) (small b j) = beside (height_note a i).part (small_part_lem b j) (λ x s. refl) (λ y s. refl) (λ x y s. refl)
-kind_exchange (small a i) (measured b j) = beside (small_part_lem a i) (measured_note b j).part (λ x s. refl) (λ y s. refl) (λ x y s. refl)
-kind_exchange (small a i) (height b j) = beside (small_part_lem a i) (height_note b j).part (λ x s. refl) (λ y s. refl) (λ x y s. refl)
+line_exchange (measured a i) (height b j) = beside (measured_note a i).part (height_note b j).part (λ x l. refl) (λ y l. refl) (λ x y l. refl)
+line_exchange (measured a i) (small b j) = beside (measured_note a i).part (small_part_lem b j) (λ x l. refl) (λ y l. refl) (λ x y l. refl)
+line_exchange (height a i) (measured b j) = beside (height_note a i).part (measured_note b j).part (λ x l. refl) (λ y l. refl) (λ x y l. refl)
+line_exchange (height a i) (small b j) = beside (height_note a i).part (small_part_lem b j) (λ x l. refl) (λ y l. refl) (λ x y l. refl)
+line_exchange (small a i) (measured b j) = beside (small_part_lem a i) (measured_note b j).part (λ x l. refl) (λ y l. refl) (λ x y l. refl)
+line_exchange (small a i) (height b j) = beside (small_part_lem a i) (height_note b j).part (λ x l. refl) (λ y l. refl) (λ x y l. refl)
+
+kind_exchange : {a b : Command} → OfLine a → OfLine b → Exchanges (as_written a) (as_written b)
+kind_exchange m n = exchanges_same (as_noted m) (as_noted n) (of_open_line (note_of m) (note_of n) (line_exchange m n))
 
 -- one of a line and a declaration, which looks at its own table
 species_exchange : {a : Command} → OfLine a → (id : ℕ) (x : Species) → Exchanges (as_written a) (declare id x)
-species_exchange (measured a i) id x = beside (measured_note a i).part (species_part id x) (λ y s. refl) (λ l s. refl) (λ y l s. refl)
-species_exchange (height a i) id x = beside (height_note a i).part (species_part id x) (λ y s. refl) (λ l s. refl) (λ y l s. refl)
-species_exchange (small a i) id x = beside (small_part_lem a i) (species_part id x) (λ y s. refl) (λ l s. refl) (λ y l s. refl)
+species_exchange m id x =
+    exchanges_same (as_noted m) (λ s. refl) (beside (line_part (note_of m)) (species_part id x) (λ y s. refl) (λ l s. refl) (λ y l s. refl))
 
 factor_exchange : {a : Command} → OfLine a → (cm x : ℕ) → Exchanges (as_written a) (give_factor cm x)
-factor_exchange (measured a i) cm x = beside (measured_note a i).part (factor_part cm x) (λ y s. refl) (λ l s. refl) (λ y l s. refl)
-factor_exchange (height a i) cm x = beside (height_note a i).part (factor_part cm x) (λ y s. refl) (λ l s. refl) (λ y l s. refl)
-factor_exchange (small a i) cm x = beside (small_part_lem a i) (factor_part cm x) (λ y s. refl) (λ l s. refl) (λ y l s. refl)
+factor_exchange m cm x =
+    exchanges_same (as_noted m) (λ s. refl) (beside (line_part (note_of m)) (factor_part cm x) (λ y s. refl) (λ l s. refl) (λ y l s. refl))
 
 -- and so any neighbour that does not part
 neighbour_exchange : {a : Command} → OfLine a → (b : Command) → parts b ≡ false → Exchanges (as_written a) (as_written b)

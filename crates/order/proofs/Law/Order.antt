@@ -8,10 +8,9 @@ use Rattle.codec.specs.Command.{encode}
 use Rattle.codec.specs.Bytes.{AllBytes}
 use Rattle.codec.specs.declared.command.Command.{Command}
 use Rattle.survey.specs.Reader.{encode_all, read_all}
-use Rattle.survey.specs.Survey.{fresh}
+use Rattle.survey.specs.Survey.{fresh, rows_of}
 use Rattle.survey.specs.AsWritten.{as_written}
 use Rattle.survey.specs.Playing.{Played, ended, stopped, met, play_list_by, play_by}
-use Rattle.survey.specs.Sheet.{rows_of}
 use Rattle.survey.specs.Total.{Answer, refused_at, totalled, total_of, short, answer_of, total, stored_by, sheet_after}
 use Rattle.survey.specs.Promise.{Promised}
 use Rattle.survey.proofs.Law.Reach.{AllFit}

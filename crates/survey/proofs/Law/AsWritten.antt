@@ -1,6 +1,6 @@
 -- On a valid survey a command does just what the papers' text says: the checks that the definitions have besides never fail there, since what
 -- a valid line holds is in the ranges of the figures that are worked from it.
-use Rattle.std.specs.Prelude.{ℕ, zero, suc, ◌+◌, ◌*◌, ◌≤◌, ◌<◌, ◌≡◌, refl, Bool, true, false, leb, eqb}
+use Rattle.std.specs.Prelude.{ℕ, zero, suc, ◌+◌, ◌*◌, ◌≤◌, ◌<◌, ◌≡◌, refl, Bool, true, false, List, Option, Some, unwrap_or, leb, eqb}
 use Rattle.std.proofs.Common.{zero-le, mul-le-mul, mul-le-mul_left, zero-mul, zero-add, add-zero, arith, ◌∙◌, sym, subst}
 use Rattle.std.proofs.Math.Nat.{div-eq_of_lt}
 use Rattle.std.proofs.Math.Path.{ap}
@@ -8,7 +8,7 @@ use Rattle.std.proofs.Math.Bool.{cond}
 use borrow.Author.Tests.{leb-true, le-leb, lt-leb, eqb-false}
 use Rattle.biomass.specs.Bounds.{Inside}
 use Rattle.biomass.specs.Whole.{inside}
-use Rattle.biomass.specs.Report.{Report, gives, unless, when, ◌then◌}
+use Rattle.biomass.specs.Report.{Report, gives, unless, when, ◌then◌, given}
 use Rattle.biomass.specs.Limits.{most_measured, most_heights, most_estimated, most_small, greatest_carbon}
 use Rattle.biomass.specs.Tariff.{line_tariff}
 use Rattle.biomass.specs.Mean.{mean}
@@ -22,19 +22,20 @@ use Rattle.biomass.proofs.Law.Mean.{mean_range}
 use Rattle.biomass.proofs.Law.Tree.{Operands}
 use Rattle.biomass.proofs.Law.Answers.{mean_answers, trees_answers, line_tariff_answers, row_answers, small_answers}
 use Rattle.biomass.proofs.Law.Project.{none_or_some}
-use Rattle.line.specs.Line.{tallied, T_of, d_of, N_of, small_number_of, whole_cm, MeasuredPart, small_part, no_measured, gaining, row_with, estimated_row, empty_row}
-use Rattle.survey.specs.Survey.{with_row, measure, give_height, f_of, tree_at, some_measured, measured_at, estimate, closing_row, close_small, close}
+use Rattle.line.specs.Line.{tallied, T_of, d_of, N_of, small_number_of, whole_cm, factor_for, tree_with, MeasuredPart, small_part, no_measured, gaining, row_with, estimated_row, empty_row}
+use Rattle.survey.specs.Survey.{with_row, measure, give_height, tree_at, some_measured, measured_at, estimate, closing_row, close_small, close}
 use Rattle.rules.specs.Checks.{most_lines}
 use Rattle.survey.specs.AsWritten.{as_written}
 use Rattle.survey.specs.Apply.{apply_measured, apply_height, apply_close, apply}
 use Rattle.line.specs.AnyLine.{most_squares, most_tariffs, add_trees, add_height, scaled, row_gaining, worked, some_row, small_row, line_row}
+use Rattle.survey.proofs.Law.Checks.{given_same, given_then}
 use Rattle.survey.specs.Valid.{ValidSpecies, ValidTally, ValidHeights, ValidSmall, Valid}
 use Rattle.codec.specs.declared.command.Command.{Command}
 use Rattle.line.specs.declared.row.Row.{Row}
 use Rattle.line.specs.declared.line.Tally.{Tally}
 use Rattle.line.specs.declared.line.Heights.{Heights}
 use Rattle.line.specs.declared.line.Line.{Line}
-use Rattle.biomass.specs.declared.units.BiomassRange.{BiomassRange}
+use Rattle.biomass.specs.Units.{BiomassRange}
 use Rattle.biomass.proofs.Law.SameChecks.{when_same, unless_same, when_then, unless_then, cond_then, then_then, passed_then, answered_then}
 use Rattle.survey.specs.declared.survey.Survey.{Survey}
 
@@ -48,10 +49,10 @@ tallied_valid t class count before in_class few =
     record { few = few; squares = omega (arith, before.squares) }
 
 -- so that S is within what the most trees come to
-squares_within : (s : Survey) → Valid s → s.active ≡ true → leb s.line.tally.squares most_squares ≡ true
-squares_within s v is_open =
-    let tally = (v.line is_open).tally in
-    let most : s.line.tally.squares ≤ most_squares = omega (arith, tally.few, tally.squares) in
+squares_within : (s : Survey) (l : Line) → Valid s → s.line ≡ Some l → leb l.tally.squares most_squares ≡ true
+squares_within s l v is_open =
+    let tally = (v.line l is_open).tally in
+    let most : l.tally.squares ≤ most_squares = omega (arith, tally.few, tally.squares) in
     le-leb _ _ most
 
 -- each height tree adds from 1 to 50 to the tariffs
@@ -59,10 +60,10 @@ pub heights_valid : (h : Heights) (T : ℕ) → ValidHeights h → Inside 1 T 50
     → ValidHeights (record { number = h.number + 1; tariffs = h.tariffs + T })
 heights_valid h T before T_range room = record { few = omega arith; tariffs = omega (arith, before.tariffs) }
 
-tariffs_within : (s : Survey) → Valid s → s.active ≡ true → leb s.line.heights.tariffs most_tariffs ≡ true
-tariffs_within s v is_open =
-    let heights = (v.line is_open).heights in
-    let most : s.line.heights.tariffs ≤ most_tariffs = omega (arith, heights.few, heights.tariffs) in
+tariffs_within : (s : Survey) (l : Line) → Valid s → s.line ≡ Some l → leb l.heights.tariffs most_tariffs ≡ true
+tariffs_within s l v is_open =
+    let heights = (v.line l is_open).heights in
+    let most : l.heights.tariffs ≤ most_tariffs = omega (arith, heights.few, heights.tariffs) in
     le-leb _ _ most
 
 -- ---- small trees
@@ -90,91 +91,96 @@ nothing_gained m carbon = simp (zero-mul, add-zero)
 
 -- ---- what is estimated of a line, by whether it has measured trees
 
-module _ (s : Survey) where
-  pub measured_by : {test : Bool} → eqb s.line.tally.n 0 ≡ test → measured_at s ≡ cond test no_measured (some_measured s)
+module _ (factors : List (Option ℕ)) (l : Line) where
+  pub measured_by : {test : Bool} → eqb l.tally.n 0 ≡ test → measured_at factors l ≡ cond test no_measured (some_measured factors l)
   unfolding measured_at
-  measured_by = ap (λ (test : Bool). cond test no_measured (some_measured s))
+  measured_by = ap (λ (test : Bool). cond test no_measured (some_measured factors l))
 
   -- its row, with what the measured part is known to be
-  row_by : {part : MeasuredPart} → measured_at s ≡ part
-      → closing_row s ≡ estimated_row s.line (record { measured = part; small = small_part s.line })
+  row_by : {part : MeasuredPart} → measured_at factors l ≡ part
+      → closing_row factors l ≡ estimated_row l (record { measured = part; small = small_part l })
   unfolding closing_row estimate
-  row_by = ap (λ (part : MeasuredPart). estimated_row s.line (record { measured = part; small = small_part s.line }))
+  row_by = ap (λ (part : MeasuredPart). estimated_row l (record { measured = part; small = small_part l }))
 
   -- "A line with n = 0 closes with tariff, d, N, low and high all 0", where it has no small trees
-  pub row_of_none : 1 ≤ s.line.q → eqb s.line.tally.n 0 ≡ true → s.line.small.count ≡ 0 → closing_row s ≡ empty_row s.line
+  pub row_of_none : 1 ≤ l.q → eqb l.tally.n 0 ≡ true → l.small.count ≡ 0 → closing_row factors l ≡ empty_row l
   row_of_none plots none uncounted =
-      let l = s.line in
       let nothing : small_number_of l ≡ 0 = ap (λ (count : ℕ). trees_of count l.p l.q) uncounted ∙ none_scaled l.p l.q plots in
       row_by (measured_by none)
       ∙ ap (λ (number : ℕ). estimated_row l (record { measured = no_measured; small = record { number = number; carbon = l.small.carbon } })) nothing
       ∙ simp zero-mul
 
+  -- its tree, where the factor is known
+  pub tree_is : {f : ℕ} → factor_for factors (d_of l) ≡ Some f → tree_at factors l ≡ tree_with l.species (T_of l) (d_of l) f
+  tree_is = ap (λ (o : Option ℕ). tree_with l.species (T_of l) (d_of l) (unwrap_or o 0))
+
 -- ---- closing
 
 -- all that the tree of a valid survey's open line is worked from, in its ranges, where the line has measured trees, a height tree and a factor
-pub line_operands : (s : Survey) → Valid s → s.active ≡ true → 1 ≤ s.line.tally.n → 1 ≤ s.line.heights.number → 0 < f_of s → Operands (tree_at s)
-line_operands s v is_open trees heights factor =
-    let l = s.line in
-    let vl = v.line is_open in
+pub line_operands : (s : Survey) (l : Line) (f : ℕ) → Valid s → s.line ≡ Some l → 1 ≤ l.tally.n → 1 ≤ l.heights.number
+    → factor_for s.factors (d_of l) ≡ Some f → Operands (tree_at s.factors l)
+line_operands s l f v is_open trees heights factor =
+    let vl = v.line l is_open in
     let T_is = line_tariff_answers l.heights.tariffs l.heights.number (record { least = heights; most = vl.heights.few }) vl.heights.tariffs in
-    let species : ValidSpecies l.species = subst ValidSpecies (sym vl.species) (v.species l.id vl.is_declared) in
-    record {
+    let species : ValidSpecies l.species = v.species l.id l.species vl.species in
+    subst Operands (sym (tree_is s.factors l factor)) (record {
       tariff = line_tariff_range l.heights.tariffs l.heights.number (T_of l) T_is;
       d = mean_range l.tally.n l.tally.squares (record { least = trees; most = vl.tally.few }) vl.tally.squares;
-      factor = (v.factors (whole_cm (d_of l)) factor).hundredths;
+      factor = (v.factors (whole_cm (d_of l)) f factor).hundredths;
       gravity = species.gravity;
       crown = species.crown;
       root = species.root;
-    }
+    })
 
 pub not_zero : (n : ℕ) → eqb n 0 ≡ false → 1 ≤ n
 not_zero n e = let other = eqb-false n 0 e in omega arith
 
 -- where a line is open, step 3 answers, of the measured count and of the small one; where it has measured trees, step 2; with a height tree, step 1; and with a
 -- factor and few enough trees, steps 4 to 7
-module _ (s : Survey) (v : Valid s) (is_open : s.active ≡ true) where
-  n_answered : trees s.line.tally.n s.line.p s.line.q ≡ gives (N_of s.line)
+module _ (s : Survey) (l : Line) (v : Valid s) (is_open : s.line ≡ Some l) where
+  n_answered : trees l.tally.n l.p l.q ≡ gives (N_of l)
   n_answered =
-      let vl = v.line is_open in
-      trees_answers s.line.tally.n s.line.p s.line.q (record { least = zero-le; most = vl.tally.few }) vl.p vl.q
+      let vl = v.line l is_open in
+      trees_answers l.tally.n l.p l.q (record { least = zero-le; most = vl.tally.few }) vl.p vl.q
 
-  count_answered : trees s.line.small.count s.line.p s.line.q ≡ gives (small_number_of s.line)
+  count_answered : trees l.small.count l.p l.q ≡ gives (small_number_of l)
   count_answered =
-      let vl = v.line is_open in
-      trees_answers s.line.small.count s.line.p s.line.q (record { least = zero-le; most = vl.small.few }) vl.p vl.q
+      let vl = v.line l is_open in
+      trees_answers l.small.count l.p l.q (record { least = zero-le; most = vl.small.few }) vl.p vl.q
 
-  module _ (some : eqb s.line.tally.n 0 ≡ false) where
-    n_range : Inside 1 s.line.tally.n most_measured
-    n_range = record { least = not_zero s.line.tally.n some; most = (v.line is_open).tally.few }
+  module _ (some : eqb l.tally.n 0 ≡ false) where
+    n_range : Inside 1 l.tally.n most_measured
+    n_range = record { least = not_zero l.tally.n some; most = (v.line l is_open).tally.few }
 
-    mean_known : mean s.line.tally.n s.line.tally.squares ≡ gives (d_of s.line)
-    mean_known = mean_answers s.line.tally.n s.line.tally.squares n_range (v.line is_open).tally.squares
+    mean_known : mean l.tally.n l.tally.squares ≡ gives (d_of l)
+    mean_known = mean_answers l.tally.n l.tally.squares n_range (v.line l is_open).tally.squares
 
-    module _ (heights : eqb s.line.heights.number 0 ≡ false) where
-      tariff_known : line_tariff s.line.heights.tariffs s.line.heights.number ≡ gives (T_of s.line)
+    module _ (heights : eqb l.heights.number 0 ≡ false) where
+      tariff_known : line_tariff l.heights.tariffs l.heights.number ≡ gives (T_of l)
       tariff_known =
-          let vl = v.line is_open in
-          line_tariff_answers s.line.heights.tariffs s.line.heights.number
-          (record { least = not_zero s.line.heights.number heights; most = vl.heights.few }) vl.heights.tariffs
+          let vl = v.line l is_open in
+          line_tariff_answers l.heights.tariffs l.heights.number
+          (record { least = not_zero l.heights.number heights; most = vl.heights.few }) vl.heights.tariffs
 
-      row_known : eqb (f_of s) 0 ≡ false → leb (N_of s.line) most_estimated ≡ true → row_biomass (N_of s.line) (tree_at s) ≡ gives (row_of (N_of s.line) (tree_of (tree_at s)))
-      row_known given small =
-          row_answers (N_of s.line) (tree_at s) (record { least = zero-le; most = leb-true _ _ small })
-          (line_operands s v is_open n_range.least (not_zero s.line.heights.number heights) (not_zero (f_of s) given))
+      row_known : (f : ℕ) → factor_for s.factors (d_of l) ≡ Some f → leb (N_of l) most_estimated ≡ true
+          → row_biomass (N_of l) (tree_with l.species (T_of l) (d_of l) f) ≡ gives (row_of (N_of l) (tree_of (tree_at s.factors l)))
+      row_known f factor small =
+          ap (row_biomass (N_of l)) (sym (tree_is s.factors l factor))
+          ∙ row_answers (N_of l) (tree_at s.factors l) (record { least = zero-le; most = leb-true _ _ small })
+          (line_operands s l f v is_open n_range.least (not_zero l.heights.number heights) factor)
 
   -- of few enough small trees the biomass is added; of none there is nothing to add
-  gained : (T d N : ℕ) (m : BiomassRange) → leb (small_number_of s.line) most_estimated ≡ true
-      → row_gaining s.line T d N m (small_number_of s.line) ≡ gives (row_with s.line T d N (gaining m (small_of (small_number_of s.line) s.line.small.carbon)))
+  gained : (T d N : ℕ) (m : BiomassRange) → leb (small_number_of l) most_estimated ≡ true
+      → row_gaining l T d N m (small_number_of l) ≡ gives (row_with l T d N (gaining m (small_of (small_number_of l) l.small.carbon)))
   unfolding row_gaining
   gained T d N m few =
-      let number = small_number_of s.line in
-      let carbon = s.line.small.carbon in
-      none_or_some (λ (r : Report Row). r ≡ gives (row_with s.line T d N (gaining m (small_of number carbon)))) number _ _
-      (λ none. ap (λ (x : BiomassRange). gives (row_with s.line T d N x)) (rw none (nothing_gained m carbon)))
+      let number = small_number_of l in
+      let carbon = l.small.carbon in
+      none_or_some (λ (r : Report Row). r ≡ gives (row_with l T d N (gaining m (small_of number carbon)))) number _ _
+      (λ none. ap (λ (x : BiomassRange). gives (row_with l T d N x)) (rw none (nothing_gained m carbon)))
       (λ some.
-      let vl = v.line is_open in
-      let counted = some_counted s.line vl.q.least some in
+      let vl = v.line l is_open in
+      let counted = some_counted l vl.q.least some in
       rw (small_answers number carbon (record { least = zero-le; most = leb-true _ _ few }) (record { least = vl.small.some counted; most = vl.small.light })))
 
 -- a number of trees that step 3 gives is refused where it is too great, and else goes on
@@ -193,38 +199,41 @@ scaled_then {N} n p q g f rest answered goes_on =
 abbrev kept : Survey → Row → Report Survey
 kept s r = when (leb most_lines s.closed) 11 (gives (with_row s r))
 
-row_kept : {r : Row} {known : Report Row} (s : Survey) → s.closed < most_lines → known ≡ gives r → closing_row s ≡ r
-    → known then kept s ≡ gives (with_row s (closing_row s))
+row_kept : {r x : Row} {known : Report Row} (s : Survey) → s.closed < most_lines → known ≡ gives r → x ≡ r → known then kept s ≡ gives (with_row s x)
 row_kept s room known is = rw (known, lt-leb most_lines s.closed room, is)
 
-kept_none : (s : Survey) → Valid s → s.active ≡ true → eqb s.line.tally.n 0 ≡ true → leb (small_number_of s.line) most_estimated ≡ true
-    → row_gaining s.line 0 0 (small_number_of s.line) (between 0 0) (small_number_of s.line) then kept s ≡ gives (with_row s (closing_row s))
-kept_none s v is_open none few = row_kept s (v.room is_open) (gained s v is_open 0 0 _ (between 0 0) few) (row_by s (measured_by s none) ∙ rw (zero-add, zero-mul))
+module _ (s : Survey) (l : Line) (v : Valid s) (is_open : s.line ≡ Some l) where
+  kept_none : eqb l.tally.n 0 ≡ true → leb (small_number_of l) most_estimated ≡ true
+      → row_gaining l 0 0 (small_number_of l) (between 0 0) (small_number_of l) then kept s ≡ gives (with_row s (closing_row s.factors l))
+  kept_none none few =
+      row_kept s (v.room l is_open) (gained s l v is_open 0 0 _ (between 0 0) few)
+      (row_by s.factors l (measured_by s.factors l none) ∙ rw (zero-add, zero-mul))
 
-kept_some : (s : Survey) → Valid s → s.active ≡ true → eqb s.line.tally.n 0 ≡ false → leb (small_number_of s.line) most_estimated ≡ true
-    → row_gaining s.line (T_of s.line) (d_of s.line) (N_of s.line + small_number_of s.line) (row_of (N_of s.line) (tree_of (tree_at s))) (small_number_of s.line) then kept s
-    ≡ gives (with_row s (closing_row s))
-kept_some s v is_open some few = row_kept s (v.room is_open) (gained s v is_open _ _ _ _ few) (row_by s (measured_by s some))
+  kept_some : eqb l.tally.n 0 ≡ false → leb (small_number_of l) most_estimated ≡ true
+      → row_gaining l (T_of l) (d_of l) (N_of l + small_number_of l) (row_of (N_of l) (tree_of (tree_at s.factors l))) (small_number_of l) then kept s
+      ≡ gives (with_row s (closing_row s.factors l))
+  kept_some some few = row_kept s (v.room l is_open) (gained s l v is_open _ _ _ _ few) (row_by s.factors l (measured_by s.factors l some))
 
--- so a line without measured trees closes as the text says
-small_closes : (s : Survey) → Valid s → s.active ≡ true → eqb s.line.tally.n 0 ≡ true → small_row s.line then kept s ≡ close_small s
-small_closes s v is_open none = scaled_then _ _ _ _ (kept s) _ (count_answered s v is_open) (kept_none s v is_open none)
+  -- so a line without measured trees closes as the text says
+  small_closes : eqb l.tally.n 0 ≡ true → small_row l then kept s ≡ close_small s l
+  small_closes none = scaled_then _ _ _ _ (kept s) _ (count_answered s l v is_open) (kept_none none)
 
--- and one with some
-some_closes : (s : Survey) → Valid s → s.active ≡ true → eqb s.line.tally.n 0 ≡ false → eqb s.line.heights.number 0 ≡ false
-    → some_row s.factors s.line then kept s ≡ when (eqb (f_of s) 0) 14 (unless (leb (N_of s.line) most_estimated) 15 (close_small s))
-unfolding worked
-some_closes s v is_open some heights =
-    answered_then (kept s) _ _ (mean_known s v is_open some)
-    (when_then (kept s) _ 14 _ _ (λ given.
-    scaled_then _ _ _ _ (kept s) _ (n_answered s v is_open) (λ few.
-    scaled_then _ _ _ _ (kept s) _ (count_answered s v is_open) (λ small.
-    answered_then (kept s) _ _ (tariff_known s v is_open some heights)
-    (answered_then (kept s) _ _ (row_known s v is_open some heights given few) (kept_some s v is_open some small))))))
+  -- and one with some
+  some_closes : eqb l.tally.n 0 ≡ false → eqb l.heights.number 0 ≡ false
+      → some_row s.factors l then kept s ≡ given (factor_for s.factors (d_of l)) 14 then λ f. unless (leb (N_of l) most_estimated) 15 (close_small s l)
+  unfolding worked
+  some_closes some heights =
+      answered_then (kept s) _ _ (mean_known s l v is_open some)
+      (given_then (kept s) _ 14 _ _ (λ f factor.
+      scaled_then _ _ _ _ (kept s) _ (n_answered s l v is_open) (λ few.
+      scaled_then _ _ _ _ (kept s) _ (count_answered s l v is_open) (λ small.
+      answered_then (kept s) _ _ (tariff_known s l v is_open some heights)
+      (answered_then (kept s) _ _ (row_known s l v is_open some heights f factor few) (kept_some some small))))))
 
 -- what the checks besides say is so of a valid survey, and the other checks are the same
 ruleset text = (
   when_same,
+  given_same,
   unless_same,
   when_then,
   unless_then,

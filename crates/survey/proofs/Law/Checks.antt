@@ -1,13 +1,15 @@
 -- Laws of the checks that a command goes through: what a figure that is given says of each test on the way, and what the tests of two or more parts say.
-use Rattle.std.specs.Prelude.{ℕ, ◌≤◌, ◌<◌, ◌≡◌, refl, Bool, true, false, cond, ltb, eqb}
-use Rattle.std.proofs.Common.{zero-le, ◌∙◌, sym, ap, ap₂, subst, ltb-true, lt-ltb, ne_eqb}
-use Rattle.std.proofs.Math.Decide.{ℕ_discrete}
+use Rattle.std.specs.Prelude.{ℕ, ◌≤◌, ◌≡◌, refl, Bool, true, false, cond, Option, None, Some, is_some, length, eqb, ◌&&◌}
+use Rattle.std.proofs.Common.{lt_of_not-le, arith, ◌∙◌, sym, ap, ap₂, subst, ne_eqb}
+use Rattle.std.proofs.Math.Decide.{ℕ_discrete, dec_le}
+use Rattle.std.proofs.lemmas.Bool.{false≢true}
+use Rattle.std.proofs.lemmas.List.{get_or_past}
 use Rattle.biomass.specs.Bounds.{Inside}
 use Rattle.biomass.specs.Whole.{inside}
-use Rattle.biomass.specs.Report.{Report, refused, gives, unless, ◌then◌, when}
-use Rattle.biomass.proofs.Law.Report.{inside_true, true_inside, both_true}
+use Rattle.biomass.specs.Report.{Report, refused, gives, unless, ◌then◌, when, given}
+use Rattle.biomass.proofs.Law.Report.{inside_true, both_true}
 use Rattle.biomass.proofs.Law.Gives.{never, figure_is}
-use Rattle.survey.specs.Survey.{species_at, declared}
+use Rattle.survey.specs.Survey.{species_at}
 use Rattle.rules.specs.Checks.{species_in_range, is_line}
 use Rattle.survey.specs.Valid.{ValidSpecies}
 use Rattle.codec.specs.declared.command.Species.{Species}
@@ -39,28 +41,44 @@ module _ {A : Type 0} (such : A → Type 0) where
   then_such (refused n) f h a e = never e
   then_such (gives b) f h a e = h b refl a e
 
-pub ruleset passed = (gives_such, when_such, unless_such, cond_such, then_such)
+  -- what stands somewhere, where something does
+  pub given_such : {B : Type 0} (o : Option B) (n : ℕ) (f : B → Report A) → ((b : B) → o ≡ Some b → Gives such (f b)) → Gives such (given o n then f)
+  given_such None n f h a e = never e
+  given_such (Some b) n f h a e = h b refl a e
+
+pub ruleset passed = (gives_such, when_such, unless_such, cond_such, given_such, then_such)
+
+-- two reports that ask alike for what stands somewhere are the same where what follows is, and that only where something stands there
+pub given_same : {A B : Type 0} (o : Option A) (n : ℕ) (f g : A → Report B) → ((a : A) → o ≡ Some a → f a ≡ g a) → given o n then f ≡ given o n then g
+given_same None n f g h = refl
+given_same (Some a) n f g h = h a refl
+
+pub given_then : {A B C : Type 0} (f : A → Report B) (o : Option C) (n : ℕ) (g : C → Report A) (q : C → Report B)
+    → ((c : C) → o ≡ Some c → g c then f ≡ q c) → given o n then g then f ≡ given o n then q
+given_then f None n g q h = refl
+given_then f (Some c) n g q h = h c refl
+
+-- ---- what stands somewhere, or not
+
+pub none_is_some : {A X : Type 0} {a : A} → None ≡ Some a → X
+none_is_some e = absurd (false≢true (ap is_some e))
+
+pub some_is : {A : Type 0} {a b : A} → Some a ≡ Some b → a ≡ b
+some_is e = cc
+
+pub nothing_there : {A : Type 0} (o : Option A) → is_some o ≡ false → o ≡ None
+nothing_there None e = refl
+nothing_there (Some a) e = absurd (false≢true (sym e))
 
 -- ---- tests of two parts
 
--- an id up to 15 with a gravity that is not 0
-pub record Declared (id : ℕ) (s : Survey) : Type 0 where
-  pub in_table : id ≤ 15
-  pub gravity : 0 < (species_at s id).gravity
-
-pub declared_true : (id : ℕ) (s : Survey) → declared id s ≡ true → Declared id s
-declared_true id s e =
-    let b = both_true (inside 0 id 15) (ltb 0 (species_at s id).gravity) e in
-    record { in_table = (inside_true 0 id 15 b.0).most; gravity = ltb-true 0 (species_at s id).gravity b.1 }
-
-pub true_declared : (id : ℕ) (s : Survey) → Declared id s → declared id s ≡ true
-true_declared id s d =
-    ap (λ (test : Bool). cond test (ltb 0 (species_at s id).gravity) false) (true_inside 0 id 15 zero-le d.in_table)
-    ∙ lt-ltb 0 (species_at s id).gravity d.gravity
-
--- whether a species is declared hangs on what stands at its id
-pub declared_as_lem : (id : ℕ) (s t : Survey) → species_at t id ≡ species_at s id → declared id t ≡ declared id s
-declared_as_lem id s t e = ap (λ (x : Species). cond (inside 0 id 15) (ltb 0 x.gravity) false) e
+-- "an id above 15 included": it has no place in the table
+pub in_table : (s : Survey) (id : ℕ) (x : Species) → length s.species ≡ 16 → species_at s id ≡ Some x → id ≤ 15
+in_table s id x long is =
+    elim (dec_le (length s.species) id) [
+      | yes past ↦ none_is_some (sym (get_or_past s.species id None past) ∙ is)
+      | no inside ↦ omega (arith, lt_of_not-le inside)
+    ]
 
 pub species_in_range_lem : (id : ℕ) (s : Species) → species_in_range id s ≡ true → Inside 0 id 15 × ValidSpecies s
 species_in_range_lem id s e =
@@ -81,4 +99,4 @@ eqb_symmetric a b =
 
 -- a line is that of one stratum and one species, whichever of two is asked for the other
 pub is_line_symmetric : (r l : Row) → is_line r.stratum r.species l ≡ is_line l.stratum l.species r
-is_line_symmetric r l = ap₂ (λ (s t : Bool). cond s t false) (eqb_symmetric l.stratum r.stratum) (eqb_symmetric l.species r.species)
+is_line_symmetric r l = ap₂ (λ (s t : Bool). s && t) (eqb_symmetric l.stratum r.stratum) (eqb_symmetric l.species r.species)

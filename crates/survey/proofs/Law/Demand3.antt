@@ -9,15 +9,14 @@ use Rattle.survey.specs.Bounds.{RowsSmall}
 use Rattle.biomass.specs.Fraction.{whole, ◌≼◌}
 use Rattle.biomass.proofs.Law.Fraction.{≼_refl, ⊕_mono, whole-⊕}
 use Rattle.biomass.proofs.Law.Project.{equal_of_none, none_of_equal, project_gap, project_not_under, project_not_over}
-use Rattle.line.specs.Line.{Estimate, both_numbers, empty_row}
+use Rattle.line.specs.Line.{Estimate, both_numbers}
 use Rattle.line.proofs.Law.Estimate.{estimate_not_under, estimate_not_over, estimate_den, estimate_bounds}
-use Rattle.survey.specs.Survey.{no_line, estimate, closing_row}
+use Rattle.survey.specs.Survey.{no_row, closing_row, rows_of}
 use Rattle.rules.specs.Checks.{most_lines}
 use Rattle.survey.specs.AsWritten.{as_written}
-use Rattle.survey.specs.Closings.{closings_of}
+use Rattle.survey.specs.Closings.{Closing, estimate_of, row_of_closing, closings_of}
 use Rattle.survey.specs.Valid.{Within, Valid}
 use Rattle.survey.specs.Playing.{Played, ended, stopped, play_by, play}
-use Rattle.survey.specs.Sheet.{rows_of}
 use Rattle.survey.specs.Total.{sum_of, row_trees, low_of, high_of, totalled, total_of, answer_of, total}
 use Rattle.survey.specs.Demand3.{lines_of, trees_added, NoneEstimated, Fractions, after_first, exact_sum, exact_total, NoneBelow, NoneAbove, Demand3, Demanded}
 use Rattle.survey.proofs.Law.Sheet.{rows_at_most}
@@ -31,7 +30,7 @@ use Rattle.survey.specs.declared.survey.Survey.{Survey}
 -- ---- the rows
 
 -- rows whose figures are within the greatest line
-within_small : (n : ℕ) (l : List Row) → ((i : ℕ) → i < n → Within (get_or l i (empty_row no_line))) → RowsSmall (take n l)
+within_small : (n : ℕ) (l : List Row) → ((i : ℕ) → i < n → Within (get_or l i no_row)) → RowsSmall (take n l)
 within_small zero l each = RowsSmall.none
 within_small (suc n) [] each = RowsSmall.none
 within_small (suc n) (r ∷ l) each =
@@ -50,19 +49,19 @@ record SumsNear (rows : List Row) : Type 0 where
   near : 100 * sum_of high_of rows ≤ 100 * sum_of low_of rows + 54 * sum_of row_trees rows + 300 * length rows
   high_of_none : sum_of row_trees rows ≡ 0 → sum_of high_of rows ≡ 0
 
-sums_near : {ss : List Survey} → AllClosed ss → SumsNear (map closing_row ss)
+sums_near : {cs : List Closing} → AllClosed cs → SumsNear (map row_of_closing cs)
 unfolding sum_of closing_row
 sums_near of_no_line = omega arith
-sums_near (and_lines s ss w c) =
-    let b = estimate_bounds (estimate s) w in
-    let rest = sums_near c in
+sums_near (and_lines c cs w closed) =
+    let b = estimate_bounds (estimate_of c) w in
+    let rest = sums_near closed in
     record { near = omega arith; high_of_none = λ none. omega (arith, b.high_of_none (omega arith), rest.high_of_none (omega arith)) }
 
 -- "the N of all lines added" is that of the rows added
-added_is : {ss : List Survey} → AllClosed ss → trees_added (map estimate ss) ≡ sum_of row_trees (map closing_row ss)
+added_is : {cs : List Closing} → AllClosed cs → trees_added (map estimate_of cs) ≡ sum_of row_trees (map row_of_closing cs)
 unfolding sum_of trees_added closing_row
 added_is of_no_line = refl
-added_is (and_lines s ss w c) = ap (λ (n : ℕ). both_numbers (estimate s) + n) (added_is c)
+added_is (and_lines c cs w closed) = ap (λ (n : ℕ). both_numbers (estimate_of c) + n) (added_is closed)
 
 -- ---- none is estimated where the N of all lines added is 0, and only there
 
@@ -90,30 +89,30 @@ unfolding exact_total
 total_den g ls = mul-pos (lit< tt) (sum_den g ls)
 
 -- line by line
-sum_not_under : (g : Fractions) {ss : List Survey} → AllClosed ss → NoneBelow g (map estimate ss)
-    → whole (pos (sum_of low_of (map closing_row ss))) ≼ exact_sum g (map estimate ss)
+sum_not_under : (g : Fractions) {cs : List Closing} → AllClosed cs → NoneBelow g (map estimate_of cs)
+    → whole (pos (sum_of low_of (map row_of_closing cs))) ≼ exact_sum g (map estimate_of cs)
 unfolding sum_of exact_sum closing_row
 sum_not_under g of_no_line below = ≼_refl (whole (pos 0))
-sum_not_under g (and_lines s ss w c) below =
-    rw (← whole-⊕ (pos (low_of (closing_row s))) (pos (sum_of low_of (map closing_row ss))))
-    (⊕_mono (estimate_not_under (estimate s) w (g.crown 0) (g.root 0) (below 0)) (sum_not_under (after_first g) c (λ i. below (suc i))))
+sum_not_under g (and_lines c cs w closed) below =
+    rw (← whole-⊕ (pos (low_of (row_of_closing c))) (pos (sum_of low_of (map row_of_closing cs))))
+    (⊕_mono (estimate_not_under (estimate_of c) w (g.crown 0) (g.root 0) (below 0)) (sum_not_under (after_first g) closed (λ i. below (suc i))))
 
-sum_not_over : (g : Fractions) {ss : List Survey} → AllClosed ss → NoneAbove g (map estimate ss)
-    → exact_sum g (map estimate ss) ≼ whole (pos (sum_of high_of (map closing_row ss)))
+sum_not_over : (g : Fractions) {cs : List Closing} → AllClosed cs → NoneAbove g (map estimate_of cs)
+    → exact_sum g (map estimate_of cs) ≼ whole (pos (sum_of high_of (map row_of_closing cs)))
 unfolding sum_of exact_sum closing_row
 sum_not_over g of_no_line above = ≼_refl (whole (pos 0))
-sum_not_over g (and_lines s ss w c) above =
-    rw (← whole-⊕ (pos (high_of (closing_row s))) (pos (sum_of high_of (map closing_row ss))))
-    (⊕_mono (estimate_not_over (estimate s) w (g.crown 0) (g.root 0) (above 0)) (sum_not_over (after_first g) c (λ i. above (suc i))))
+sum_not_over g (and_lines c cs w closed) above =
+    rw (← whole-⊕ (pos (high_of (row_of_closing c))) (pos (sum_of high_of (map row_of_closing cs))))
+    (⊕_mono (estimate_not_over (estimate_of c) w (g.crown 0) (g.root 0) (above 0)) (sum_not_over (after_first g) closed (λ i. above (suc i))))
 
 -- ---- the demand
 
 -- of at most 32 lines that are closed, with the rows that they leave
-pub demand3 : (ss : List Survey) → AllClosed ss → RowsSmall (map closing_row ss) → length (map closing_row ss) ≤ most_lines
-    → Demand3 (map estimate ss) (total_of (map closing_row ss)).carbon.low.0 (total_of (map closing_row ss)).carbon.high.0
+pub demand3 : (cs : List Closing) → AllClosed cs → RowsSmall (map row_of_closing cs) → length (map row_of_closing cs) ≤ most_lines
+    → Demand3 (map estimate_of cs) (total_of (map row_of_closing cs)).carbon.low.0 (total_of (map row_of_closing cs)).carbon.high.0
 unfolding total_of exact_total
-demand3 ss closed small number =
-    let rows = map closing_row ss in
+demand3 cs closed small number =
+    let rows = map row_of_closing cs in
     let L = sum_of low_of rows in
     let H = sum_of high_of rows in
     let N = sum_of row_trees rows in
@@ -121,8 +120,8 @@ demand3 ss closed small number =
     let ordered : L ≤ H = (sums_small rows small).2 in
     let is = added_is closed in
     record {
-      equal_only_when = λ e. every_none (map estimate ss) (is ∙ none_of_equal L H N ordered e);
-      equal_when = λ none. equal_of_none L H N (sym is ∙ none_added (map estimate ss) none);
+      equal_only_when = λ e. every_none (map estimate_of cs) (is ∙ none_of_equal L H N ordered e);
+      equal_when = λ none. equal_of_none L H N (sym is ∙ none_added (map estimate_of cs) none);
       gap = rw is (project_gap L H N (300 * length rows) (omega arith) b.near);
       not_under_the_low = λ g below. project_not_under L H N (sum_not_under g closed below);
       not_over_the_high = λ g above. project_not_over L H N b.high_of_none (sum_not_over g closed above);
@@ -140,9 +139,9 @@ module _ (book : List ℕ) (s : Survey) (accepted : play book ≡ ended s) where
   accepted_demanded =
       let v = play_valid book s accepted in
       let rows = rows_of s in
-      let are : rows ≡ map closing_row (closings_of book) = rows_are book s by_text in
-      let small : RowsSmall (map closing_row (closings_of book)) = subst RowsSmall are (rows_small s v) in
-      let number : length (map closing_row (closings_of book)) ≤ most_lines = subst (λ (rs : List Row). length rs ≤ most_lines) are (rows_at_most s v) in
+      let are : rows ≡ map row_of_closing (closings_of book) = rows_are book s by_text in
+      let small : RowsSmall (map row_of_closing (closings_of book)) = subst RowsSmall are (rows_small s v) in
+      let number : length (map row_of_closing (closings_of book)) ≤ most_lines = subst (λ (rs : List Row). length rs ≤ most_lines) are (rows_at_most s v) in
       rw are (demand3 (closings_of book) (all_lines_closed book) small number)
 
   -- and "the N of all lines added", which comes back, is that of these lines

@@ -1,8 +1,8 @@
 -- "11 32 lines opened", "11 over the limit": the number 11 is told only at the limit, of any survey, valid or not. Every other number that a
 -- command is declined with is another one.
-use Rattle.std.specs.Prelude.{ℕ, ◌+◌, ◌≤◌, ◌<◌, ◌≡◌, refl, false, eqb}
+use Rattle.std.specs.Prelude.{ℕ, ◌+◌, ◌≤◌, ◌<◌, ◌≡◌, refl, false, Option, Some, IsSomeAnd, eqb}
 use Rattle.std.proofs.lemmas.Bool.{false≢true, eqb-false}
-use Rattle.std.proofs.Common.{leb-true, leb-false}
+use Rattle.std.proofs.Common.{sym, subst, leb-true, leb-false}
 use Rattle.biomass.specs.Report.{refused}
 use Rattle.biomass.specs.Limits.{most_measured, most_heights}
 use Rattle.biomass.proofs.Law.Declines.{Declines}
@@ -14,15 +14,16 @@ use Rattle.line.specs.AnyLine.{add_trees, add_height}
 use Rattle.survey.specs.Valid.{Valid}
 use Rattle.survey.proofs.Law.Named.{refusals, line_row_declines, only_named}
 use Rattle.codec.specs.declared.command.Command.{Command}
+use Rattle.line.specs.declared.line.Line.{Line}
 use Rattle.survey.specs.declared.survey.Survey.{Survey}
 
--- the limit that each command may meet; the others meet none
+-- the limit that each command may meet, of the survey or of its open line; the others meet none
 abbrev pub AtLimit : Command → Survey → Type 0
 AtLimit (Command.Species id species) s = ⊥
 AtLimit (Command.Factor cm factor) s = ⊥
 AtLimit (Command.Open stratum species p q) s = most_lines ≤ s.closed
-AtLimit (Command.Measured class count) s = most_measured < s.line.tally.n + count
-AtLimit (Command.Height cm tenths) s = most_heights ≤ s.line.heights.number
+AtLimit (Command.Measured class count) s = IsSomeAnd s.line (λ l. most_measured < l.tally.n + count)
+AtLimit (Command.Height cm tenths) s = IsSomeAnd s.line (λ l. most_heights ≤ l.heights.number)
 AtLimit Command.Close s = most_lines ≤ s.closed
 AtLimit Command.End s = ⊥
 AtLimit (Command.Small carbon count) s = ⊥
@@ -34,10 +35,14 @@ record Eleven (X : Type 0) (n : ℕ) : Type 0 where
 at_limit : {X : Type 0} → X → Eleven X 11
 at_limit x = record { holds = λ is. x }
 
+-- so of the open line
+line_at_limit : (s : Survey) (l : Line) (P : Line → Type 0) → s.line ≡ Some l → P l → Eleven (IsSomeAnd s.line P) 11
+line_at_limit s l P is_open x = at_limit (subst (λ (o : Option Line). IsSomeAnd o P) (sym is_open) x)
+
 other : (X : Type 0) (n : ℕ) → eqb n 11 ≡ false → Eleven X n
 other X n e = record { holds = λ is. absurd (eqb-false n 11 e is) }
 
-ruleset limits = (refusals, other, at_limit, leb-true, leb-false)
+ruleset limits = (refusals, other, line_at_limit, at_limit, leb-true, leb-false)
 
 eleven_told : (c : Command) (s : Survey) → Declines (Eleven (AtLimit c s)) (apply c s)
 unfolding declare give_factor open_line apply_measured add_trees apply_height add_height apply_close end give_small add_small

@@ -1,6 +1,6 @@
 -- Totalling the listing gives what document 01 prints of it. All of the book is numbers, so reading it, applying its commands and working its rows compute:
 -- one equation gives the survey at its end (`listing_played`), and the answer, the sheet and the lines are read off it.
-use Rattle.std.specs.Prelude.{ℕ, ◌*◌, ◌≤◌, ◌≡◌, refl, true, false, List, [], ◌∷◌, ◌++◌, map, length, drop, set, replicate}
+use Rattle.std.specs.Prelude.{None, Some, ℕ, ◌*◌, ◌≤◌, ◌≡◌, refl, true, List, [], ◌∷◌, ◌++◌, map, length, drop, set, replicate}
 use Rattle.std.proofs.Common.{◌∙◌, sym, le-ltb}
 use Rattle.powers.specs.Greatest.{greatest}
 use Rattle.biomass.specs.Tariff.{single_tariff, line_tariff}
@@ -13,10 +13,10 @@ use Rattle.biomass.specs.Tree.{tree, row_biomass}
 use Rattle.codec.specs.Reading.{species_from, factor_from, open_from, measured_from, height_from, command_from, read}
 use Rattle.codec.specs.Bytes.{stored_at}
 use Rattle.survey.specs.Reader.{encode_all, reach_up_to, reach}
-use Rattle.line.specs.Line.{new_line, tree_with, Estimate, no_trees, empty_row}
-use Rattle.survey.specs.Survey.{no_line, fresh, declare, give_factor, opened, open_line, measure, give_height, measured_at, estimate, closing_row, close, end}
+use Rattle.line.specs.Line.{tree_with, Estimate, no_trees}
+use Rattle.survey.specs.Survey.{no_row, fresh, declare, give_factor, opened, open_line, measure, give_height, measured_at, estimate, closing_row, close, end}
 use Rattle.survey.specs.AsWritten.{as_written}
-use Rattle.survey.specs.Closings.{closings, closings_of}
+use Rattle.survey.specs.Closings.{row_of_closing, closings, closings_of}
 use Rattle.survey.specs.Apply.{apply_measured, apply_height, apply_close}
 use Rattle.line.specs.AnyLine.{add_trees, add_height, row_gaining, worked, line_row}
 use Rattle.survey.specs.Playing.{ended, step_by, play_up_to_by, play_by, play}
@@ -36,12 +36,11 @@ use Rattle.survey.specs.declared.survey.Survey.{Survey}
 unfoldable pub listing_survey : Survey
 listing_survey =
     record {
-      species = set fresh.species 3 listed;
-      factors = set fresh.factors 60 101;
-      rows = row1 ∷ row2 ∷ replicate 30 (empty_row no_line);
+      species = set fresh.species 3 (Some listed);
+      factors = set fresh.factors 60 (Some 101);
+      rows = row1 ∷ row2 ∷ replicate 30 no_row;
       closed = 2;
-      active = false;
-      line = new_line 2 3 listed 1 1;
+      line = None;
       ended = true;
     }
 
@@ -83,6 +82,6 @@ unfolding
 listing_lines_lem = refl
 
 -- which give its rows
-pub listing_rows : row1 ∷ row2 ∷ [] ≡ map closing_row (closings_of listing)
+pub listing_rows : row1 ∷ row2 ∷ [] ≡ map row_of_closing (closings_of listing)
 unfolding listing_survey
 listing_rows = rows_are listing listing_survey listing_accepted

@@ -1,10 +1,13 @@
 -- A command is refused with the numbers that the papers name for it: of a valid survey with no other, and of any survey with no other but 6 and
 -- 11, since all commands but closing have just the numbers that are named. Each check tells its own number, and each figure 6 or 13. None of them is below 5, so that a refusal is never taken for acceptance,
 -- nor for one of reading.
-use Rattle.std.specs.Prelude.{ℕ, ◌≤◌, ◌≡◌, refl, Bool, true, false, cond, List, [], ◌∷◌, leb, eqb}
-use Rattle.std.proofs.Common.{arith, ◌∙◌, sym, ap, leb-true, eqb-true}
+use Rattle.std.specs.Prelude.{ℕ, ◌≤◌, ◌≡◌, refl, Bool, true, false, cond, List, [], ◌∷◌, Option, None, Some, leb, eqb}
+use Rattle.std.proofs.Common.{arith, ◌∙◌, sym, ap, subst, leb-true, eqb-true}
 use Rattle.std.proofs.lemmas.Bool.{false≢true}
-use Rattle.biomass.specs.Report.{refused}
+use Rattle.biomass.specs.Report.{Report, refused, gives, given, ◌then◌, After, leaves}
+use Rattle.biomass.proofs.Law.Gives.{number_is}
+use Rattle.codec.specs.Refusal.{number}
+use Rattle.codec.specs.declared.refusal.Refusal.{Refusal}
 use Rattle.biomass.proofs.Law.Report.{both_true}
 use Rattle.biomass.proofs.Law.Declines.{Declines, six_declines, six_or_thirteen_declines, single_tariff_declines, line_tariff_declines, mean_declines, trees_declines, row_declines, small_declines, declined}
 use Rattle.survey.specs.Survey.{declare, give_factor, open_line, measure, give_height, give_small, close, end}
@@ -17,7 +20,7 @@ use Rattle.survey.proofs.Law.AsWritten.{as_written_lem}
 use Rattle.codec.specs.declared.command.Command.{Command}
 use Rattle.line.specs.declared.line.Line.{Line}
 use Rattle.survey.specs.declared.survey.Survey.{Survey}
-use Rattle.biomass.specs.declared.units.BiomassRange.{BiomassRange}
+use Rattle.biomass.specs.Units.{BiomassRange}
 
 abbrev In : List ℕ → ℕ → Type 0
 In l n = is_in n l ≡ true
@@ -26,8 +29,14 @@ In l n = is_in n l ≡ true
 abbrev Named : Command → ℕ → Type 0
 Named c = In (numbers_of c)
 
+-- what stands somewhere, or else the number that is told where nothing does
+pub given_declines : {A B : Type 0} (such : ℕ → Type 0) (o : Option A) (k : ℕ) (next_of : A → Report B)
+    → such k → ((a : A) → o ≡ Some a → Declines such (next_of a)) → Declines such (given o k then next_of)
+given_declines such None k next_of this others n e = subst such (number_is e) this
+given_declines such (Some a) k next_of this others n e = others a refl n e
+
 -- the checks of a command, one by one, with the figure that a height tree is worked from
-pub ruleset refusals = (declined, six_or_thirteen_declines, single_tariff_declines)
+pub ruleset refusals = (given_declines, declined, six_or_thirteen_declines, single_tariff_declines)
 
 -- and those of a line's row, with the figures that it is worked from, whatever is to hold of the numbers
 module _ (such : ℕ → Type 0) (six : such 6) where
@@ -42,10 +51,10 @@ module _ (such : ℕ → Type 0) (six : such 6) where
   unfolding worked
   worked_declines l T d f N number = search (declined, six_declines, row_declines, gaining_declines) depth 12
 
-pub line_row_declines : (such : ℕ → Type 0) (factors : List ℕ) (l : Line) → such 6 → such 12 → such 14 → such 15 → Declines such (line_row factors l)
+pub line_row_declines : (such : ℕ → Type 0) (factors : List (Option ℕ)) (l : Line) → such 6 → such 12 → such 14 → such 15 → Declines such (line_row factors l)
 unfolding line_row
 line_row_declines such factors l six twelve fourteen fifteen =
-    search (declined, six_declines, line_tariff_declines, mean_declines, scaled_declines, gaining_declines, worked_declines) depth 20
+    search (given_declines, declined, six_declines, line_tariff_declines, mean_declines, scaled_declines, gaining_declines, worked_declines) depth 20
 
 -- ---- a valid survey
 
@@ -124,3 +133,49 @@ refusal_from_five c s n e = leb-true 5 n (in_each (leb 5) n of_applying refl (re
 -- 0 stands for acceptance
 pub refusal_not_zero : (c : Command) (s : Survey) (n : ℕ) → apply c s ≡ refused n → n ≡ 0 → ⊥
 refusal_not_zero c s n e zero = omega (arith, refusal_from_five c s n e)
+
+-- ---- what the code answers of a command (`after`) tells which it is: no number of a refusal is 0
+
+pub number_some : (why : Refusal) → 1 ≤ number why
+number_some Refusal.AtEnd = omega arith
+number_some Refusal.UnknownByte = omega arith
+number_some Refusal.CutShort = omega arith
+number_some Refusal.NoRoom = omega arith
+number_some Refusal.Ended = omega arith
+number_some Refusal.Operand = omega arith
+number_some Refusal.AlreadyGiven = omega arith
+number_some Refusal.Undeclared = omega arith
+number_some Refusal.LineOpen = omega arith
+number_some Refusal.NoLine = omega arith
+number_some Refusal.Limit = omega arith
+number_some Refusal.NoHeightTree = omega arith
+number_some Refusal.Tariff = omega arith
+number_some Refusal.NoFactor = omega arith
+number_some Refusal.TooManyTrees = omega arith
+number_some Refusal.ShortSheet = omega arith
+
+pub is_taken : (c : Command) (s t : Survey) → record { left = t; refusal = 0 } ≡ leaves s (apply c s) → apply c s ≡ gives t
+is_taken c s t = by_report (apply c s) (refusal_not_zero c s)
+  where
+    by_report : (r : Report Survey) → ((n : ℕ) → r ≡ refused n → n ≡ 0 → ⊥) → record { left = t; refusal = 0 } ≡ leaves s r → r ≡ gives t
+    by_report (refused n) not_zero e = absurd (not_zero n refl (sym (ap (λ (a : After Survey). a.refusal) e)))
+    by_report (gives u) not_zero e = sym (ap (λ (a : After Survey). gives a.left) e)
+
+pub is_refused : (c : Command) (s t : Survey) (why : Refusal) → record { left = t; refusal = number why } ≡ leaves s (apply c s) → apply c s ≡ refused (number why)
+is_refused c s t why = by_report (apply c s)
+  where
+    by_report : (r : Report Survey) → record { left = t; refusal = number why } ≡ leaves s r → r ≡ refused (number why)
+    by_report (refused n) e = sym (ap (λ (a : After Survey). refused a.refusal) e)
+    by_report (gives u) e = let zero : number why ≡ 0 = ap (λ (a : After Survey). a.refusal) e in absurd (omega (arith, number_some why))
+
+-- "5 the book has ended, first of all."
+pub ended_refuses : (c : Command) (s : Survey) → s.ended ≡ true → apply c s ≡ refused 5
+unfolding declare give_factor open_line apply_measured apply_height apply_close end give_small
+ended_refuses (Command.Species id species) s e = rw e
+ended_refuses (Command.Factor cm factor) s e = rw e
+ended_refuses (Command.Open stratum species p q) s e = rw e
+ended_refuses (Command.Measured class count) s e = rw e
+ended_refuses (Command.Height cm tenths) s e = rw e
+ended_refuses Command.Close s e = rw e
+ended_refuses Command.End s e = rw e
+ended_refuses (Command.Small carbon count) s e = rw e

@@ -1,6 +1,7 @@
 -- Demand 3 says something of every book that is accepted: on its lines there are fractions that are not above the powers and fractions that are not below
 -- them, the exact totals with the first are not above those with the second, and the low is not above the high. The fractions shown are step 5's w and
 -- step 6's y, in units of 10^-5, and w + 1 and y + 1 (biomass/proofs/Law/Power.antt).
+use Rattle.survey.specs.Survey.{rows_of}
 use Rattle.std.specs.Prelude.{ℕ, zero, suc, ◌+◌, ◌≤◌, ◌<◌, ◌≡◌, cond, List, [], ◌∷◌, eqb, pos}
 use Rattle.std.proofs.Common.{zero-le, arith, subst}
 use Rattle.std.proofs.Math.Dec.{eqb-suc-zero}
@@ -16,7 +17,6 @@ use Rattle.biomass.proofs.Law.Project.{project_ordered}
 use Rattle.line.specs.Line.{Estimate}
 use Rattle.line.specs.Exact.{exact_of}
 use Rattle.survey.specs.Playing.{Played, ended, stopped, play}
-use Rattle.survey.specs.Sheet.{rows_of}
 use Rattle.survey.specs.Total.{Answer, refused_at, totalled, sum_of, row_trees, total_of, answer_of, total}
 use Rattle.survey.specs.Demand3.{line_at, Fractions, after_first, exact_sum, exact_total, NoneBelow, NoneAbove}
 use Rattle.survey.proofs.Law.Sums.{sums_small}

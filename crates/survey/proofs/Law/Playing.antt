@@ -6,33 +6,33 @@
 use Prim.Native.Nat.{ℕ, zero, suc, ◌+◌, ◌≤◌, ◌<◌}
 use Rattle.std.proofs.Common.{lt_of_not-le, arith, ◌∙◌, sym, length-append, lt-ltb, le-ltb, ltb-true, ltb-false}
 use Rattle.std.proofs.Math.Decide.{dec_le}
-use Rattle.std.specs.Prelude.{◌≡◌, Bool, true, false, List, [], ◌∷◌, ◌++◌, length, ltb}
+use Rattle.std.specs.Prelude.{◌≡◌, Bool, true, false, Option, Some, Result, Ok, Err, List, [], ◌∷◌, ◌++◌, length, ltb}
 use Rattle.std.proofs.Math.Path.{refl, ap, ap₂, subst}
 use Rattle.std.proofs.Math.Bool.{cond}
 use Rattle.std.proofs.lemmas.Bool.{false≢true}
-use Rattle.biomass.specs.Report.{Report, refused, gives, unless, ◌then◌, when}
+use Rattle.biomass.specs.Report.{Report, refused, gives, when, ◌then◌, given, After, leaves, after}
 use Rattle.biomass.proofs.Law.Gives.{made, figure_is, number_is}
 use Rattle.biomass.proofs.Law.Declines.{Declines, gives_declines, then_declines}
 use Rattle.biomass.proofs.Law.SameChecks.{then_same}
 use Rattle.codec.specs.Command.{encode}
 use Rattle.codec.specs.Reading.{read}
 use Rattle.survey.specs.Reader.{encode_all, reach}
-use Rattle.survey.specs.Survey.{leaves, fresh, with_line}
+use Rattle.survey.specs.Survey.{fresh, with_state, with_line}
 use Rattle.survey.specs.AsWritten.{as_written, is_in}
-use Rattle.survey.specs.Apply.{on_line, apply, reached}
+use Rattle.survey.specs.Apply.{on_line, apply_measured, apply_height, apply, reached}
+use Rattle.line.specs.AnyLine.{add_trees, add_height}
+use Rattle.line.specs.declared.line.Line.{Line}
 use Rattle.survey.specs.Valid.{Valid}
-use Rattle.survey.specs.Playing.{Played, ended, stopped, taken_to, step_by, step, met, after_end, play_up_to_by, play_up_to, play_from, play_by, play, play_list_by}
-use Rattle.survey.specs.LineUpdate.{Update, line_updated, other_command, updated_to, update_by, update_line}
-use Rattle.rules.specs.Change.{Own, own, not_own, own_of}
+use Rattle.survey.specs.Playing.{Played, ended, stopped, taken_to, step_by, step, met, after_end, play_up_to_by, play_up_to, play_from, play_by, play, play_list_by, Notes}
 use Rattle.codec.proofs.Law.Bytes.{Stands, stands_first, stands_second, stands_itself}
 use Rattle.codec.proofs.Law.RoundTrip.{read_at_end, read_encoded, read_moves}
 use Rattle.survey.proofs.Law.Reach.{read_declines, reach_refused, reach_on, AllFit, none, and_next}
-use Rattle.survey.proofs.Law.Change.{ended_refuses, own_applied}
 use Rattle.survey.proofs.Law.Valid.{fresh_valid, apply_valid}
 use Rattle.survey.proofs.Law.AsWritten.{as_written_lem}
-use Rattle.survey.proofs.Law.Named.{of_applying, in_other, refusal_of_applying}
+use Rattle.survey.proofs.Law.Named.{of_applying, in_other, refusal_of_applying, number_some, is_taken, is_refused, ended_refuses}
 use Rattle.codec.specs.declared.command.Command.{Command}
-use Rattle.line.specs.declared.line.Line.{Line}
+use Rattle.codec.specs.Refusal.{number}
+use Rattle.codec.specs.declared.refusal.Refusal.{Refusal}
 use Rattle.survey.specs.declared.survey.Survey.{Survey}
 
 -- ---- one command
@@ -106,7 +106,7 @@ module _ (book : List ℕ) (at : ℕ) (s : Survey) where
   pub plays_past_end : s.ended ≡ true → at < length book → play_from book at s ≡ stopped 5 at
   plays_past_end is_ended some_left = plays_after_end is_ended ∙ rw lt-ltb
 
--- ---- a command whose change is known (Law.Change), read at the place
+-- ---- a command that is read at the place
 
 -- from here on in the book, what is played is the same
 pub record On (book : List ℕ) (at : ℕ) (s : Survey) (next : ℕ) (t : Survey) : Type 0 where
@@ -133,58 +133,75 @@ pub plays_unread : (book : List ℕ) (at : ℕ) (s : Survey) (n : ℕ) → s.end
 unfolding step_by
 plays_unread book at s n not_ended e = plays_refused book at s n not_ended (ap (λ (r : Report (Command × ℕ)). r then λ x. taken_to x.1 (apply x.0 s)) e)
 
--- ---- the open line alone
+-- by what the code answers of the command: it is taken, or declined
+pub plays_applied : (book : List ℕ) (at : ℕ) (s : Survey) {c : Command} {next : ℕ} {t : Survey} → s.ended ≡ false → read book at ≡ gives (c, next)
+    → record { left = t; refusal = 0 } ≡ leaves s (apply c s) → On book at s next t
+plays_applied book at s {c} {next} {t} not_ended reads e = plays_taken book at s c next reads t not_ended (is_taken c s t e)
 
--- what an update of the line makes of the survey: the other line; and where the command is not the line's own, whatever else comes of it
-abbrev carried : Survey → Report (Survey × ℕ) → Update → Report (Survey × ℕ)
-carried s other (line_updated m next) = gives (with_line s m, next)
-carried s other other_command = other
+pub plays_told : (book : List ℕ) (at : ℕ) (s : Survey) {c : Command} {next : ℕ} {t : Survey} (why : Refusal) → s.ended ≡ false
+    → read book at ≡ gives (c, next) → record { left = t; refusal = number why } ≡ leaves s (apply c s) → play_from book at s ≡ stopped (number why) at
+plays_told book at s {c} {next} {t} why not_ended reads e = plays_declined book at s c next reads (number why) not_ended (is_refused c s t why e)
 
-module _ (s : Survey) (l : Line) (not_ended : s.ended ≡ false) (is_open : s.active ≡ true) where
-  -- the line's own commands look at nothing else of a survey with an open line
-  line_carried : (next : ℕ) (other : Report (Survey × ℕ)) (line : Report Line)
-      → taken_to next (on_line line s) ≡ updated_to next line then carried s other
-  line_carried next other line =
-      ap₂ (λ (b o : Bool). taken_to next (when b 5 (unless o 10 (line then λ m. gives (with_line s m))))) not_ended is_open ∙ by_line line
-    where
-      by_line : (line : Report Line) → taken_to next (line then λ m. gives (with_line s m)) ≡ updated_to next line then carried s other
-      by_line (refused n) = refl
-      by_line (gives m) = refl
+-- ---- the open line by itself (Notes)
 
-  apply_carried : (c : Command) (next : ℕ)
-      → taken_to next (apply c (with_line s l)) ≡ update_by next (own_of c l) then carried s (taken_to next (apply c (with_line s l)))
-  apply_carried c next = by_own (own_of c l) refl
-    where
-      by_own : (o : Own) → own_of c l ≡ o → taken_to next (apply c (with_line s l)) ≡ update_by next o then carried s (taken_to next (apply c (with_line s l)))
-      by_own (own after) e = ap (taken_to next) (own_applied c (with_line s l) e) ∙ line_carried next _ after
-      by_own not_own e = refl
+-- what is made of an open line is made of the survey
+line_applied : (note : Line → Report Line) (s : Survey) (l m : Line) (n : ℕ) → s.ended ≡ false → record { left = m; refusal = n } ≡ leaves l (note l)
+    → record { left = with_line s m; refusal = n } ≡ leaves (with_line s l) (on_line note (with_line s l))
+line_applied note s l m n not_ended e =
+    by_report (note l) e ∙ ap (λ (b : Bool). leaves (with_line s l) (when b 5 (note l then λ k. gives (with_line s k)))) (sym not_ended)
+  where
+    by_report : (r : Report Line) → record { left = m; refusal = n } ≡ leaves l r
+        → record { left = with_line s m; refusal = n } ≡ leaves (with_line s l) (r then λ k. gives (with_line s k))
+    by_report (refused k) e = ap (λ (a : After Line). record { left = with_line s a.left; refusal = a.refusal }) e
+    by_report (gives k) e = ap (λ (a : After Line). record { left = with_line s a.left; refusal = a.refusal }) e
 
-  -- where a line is open, a command that is the line's own does to the survey what it does to the line
-  note_carried : (book : List ℕ) (at : ℕ) {r : Report Update} → update_line book at l ≡ r
-      → step book at (with_line s l) ≡ r then carried s (step book at (with_line s l))
-  unfolding update_line step_by
-  note_carried book at e = by_read_lem (read book at) ∙ ap (λ (r : Report Update). r then carried s (step book at (with_line s l))) e
-    where
-      by_read_lem : (r : Report (Command × ℕ)) → (r then λ x. taken_to x.1 (apply x.0 (with_line s l)))
-          ≡ (r then λ x. update_by x.1 (own_of x.0 l)) then carried s (r then λ x. taken_to x.1 (apply x.0 (with_line s l)))
-      by_read_lem (refused n) = refl
-      by_read_lem (gives (c, next)) = apply_carried c next
+-- a survey is the one with its open line
+with_its_line : (s : Survey) (l : Line) → s.line ≡ Some l → s ≡ with_line s l
+with_its_line s l is_open = ap (λ (o : Option Line). with_state s o s.ended) is_open
 
-pub update_taken : (book : List ℕ) (at : ℕ) (s : Survey) (l m : Line) (next : ℕ) → s.ended ≡ false → s.active ≡ true
-    → update_line book at l ≡ gives (line_updated m next) → step book at (with_line s l) ≡ gives (with_line s m, next)
-update_taken book at s l m next not_ended is_open e = note_carried s l not_ended is_open book at e
+module _ (book : List ℕ) (at : ℕ) (l m : Line) (c : Command) (next : ℕ) (note : Line → Report Line) (same : (s : Survey) → apply c s ≡ on_line note s)
+    (reads : read book at ≡ gives (c, next)) where
+  left_so : (s : Survey) (n : ℕ) → s.ended ≡ false → record { left = m; refusal = n } ≡ leaves l (note l)
+      → record { left = with_line s m; refusal = n } ≡ leaves (with_line s l) (apply c (with_line s l))
+  left_so s n not_ended e = line_applied note s l m n not_ended e ∙ ap (leaves (with_line s l)) (sym (same (with_line s l)))
 
-pub update_refused : (book : List ℕ) (at : ℕ) (s : Survey) (l : Line) (n : ℕ) → s.ended ≡ false → s.active ≡ true
-    → update_line book at l ≡ refused n → step book at (with_line s l) ≡ refused n
-update_refused book at s l n not_ended is_open e = note_carried s l not_ended is_open book at e
+  noted : record { left = m; refusal = 0 } ≡ leaves l (note l) → Notes book at l (Ok (Some next)) m
+  noted e =
+      let moves = read_moves book at c next reads in (
+        moves.0,
+        moves.1,
+        λ s not_ended is_open.
+            ap (play_from book at) (with_its_line s l is_open) ∙ (plays_applied book at (with_line s l) not_ended reads (left_so s 0 not_ended e)).plays,
+      )
 
--- and playing goes on from there
-pub plays_updated : (book : List ℕ) (at : ℕ) (s : Survey) (l m : Line) (next : ℕ) → s.ended ≡ false → s.active ≡ true
-    → update_line book at l ≡ gives (line_updated m next) → On book at (with_line s l) next (with_line s m)
-plays_updated book at s l m next not_ended is_open e =
-    let takes = update_taken book at s l m next not_ended is_open e in
-    let moves = step_moves book at (with_line s l) (with_line s m) next takes in
-    record { moves = moves.0; inside = moves.1; plays = plays_on book at (with_line s l) (with_line s m) next not_ended takes }
+  told : (why : Refusal) → record { left = m; refusal = number why } ≡ leaves l (note l) → Notes book at l (Err why) m
+  told why e = λ s not_ended is_open.
+      ap (play_from book at) (with_its_line s l is_open) ∙ plays_told book at (with_line s l) why not_ended reads (left_so s (number why) not_ended e)
+
+-- measured trees and a height tree, noted or refused, and where no command is read
+module _ (book : List ℕ) (at : ℕ) (l m : Line) (next : ℕ) where
+  pub notes_measured : (class count : ℕ) → read book at ≡ gives (Command.Measured class count, next)
+      → record { left = m; refusal = 0 } ≡ leaves l (add_trees class count l) → Notes book at l (Ok (Some next)) m
+  unfolding apply_measured
+  notes_measured class count reads e = noted book at l m (Command.Measured class count) next (add_trees class count) (λ s. refl) reads e
+
+  pub tells_measured : (class count : ℕ) (why : Refusal) → read book at ≡ gives (Command.Measured class count, next)
+      → record { left = m; refusal = number why } ≡ leaves l (add_trees class count l) → Notes book at l (Err why) m
+  unfolding apply_measured
+  tells_measured class count why reads e = told book at l m (Command.Measured class count) next (add_trees class count) (λ s. refl) reads why e
+
+  pub notes_height : (cm tenths : ℕ) → read book at ≡ gives (Command.Height cm tenths, next)
+      → record { left = m; refusal = 0 } ≡ leaves l (add_height cm tenths l) → Notes book at l (Ok (Some next)) m
+  unfolding apply_height
+  notes_height cm tenths reads e = noted book at l m (Command.Height cm tenths) next (add_height cm tenths) (λ s. refl) reads e
+
+  pub tells_height : (cm tenths : ℕ) (why : Refusal) → read book at ≡ gives (Command.Height cm tenths, next)
+      → record { left = m; refusal = number why } ≡ leaves l (add_height cm tenths l) → Notes book at l (Err why) m
+  unfolding apply_height
+  tells_height cm tenths why reads e = told book at l m (Command.Height cm tenths) next (add_height cm tenths) (λ s. refl) reads why e
+
+pub tells_unread : (book : List ℕ) (at : ℕ) (l : Line) (why : Refusal) → refused (number why) ≡ read book at → Notes book at l (Err why) l
+tells_unread book at l why e = λ s not_ended is_open. plays_unread book at s (number why) not_ended (sym e)
 
 -- ---- what a whole book comes to
 
@@ -370,7 +387,7 @@ play_of_list cs fs =
 
 reached_on : (c : Command) (cs : List Command) (s t : Survey) → apply c s ≡ gives t → reached (c ∷ cs) s ≡ reached cs t
 unfolding reached
-reached_on c cs s t = ap (λ (r : Report Survey). reached cs (leaves s r).survey)
+reached_on c cs s t = ap (λ (r : Report Survey). reached cs (leaves s r).left)
 
 reaches : (most : ℕ) (book : List ℕ) (at : ℕ) (s t : Survey) → play_up_to most book at s ≡ ended t → reached (reach book at).commands s ≡ t
 unfolding play_up_to_by reached

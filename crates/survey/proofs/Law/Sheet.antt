@@ -6,7 +6,8 @@ use Rattle.biomass.specs.Report.{gives}
 use Rattle.codec.specs.Bytes.{byte, stored_at}
 use Rattle.rules.specs.Checks.{most_lines}
 use Rattle.survey.specs.Valid.{Valid}
-use Rattle.survey.specs.Sheet.{sheet_length, sheet_bytes, rows_of, find_row}
+use Rattle.survey.specs.Survey.{rows_of}
+use Rattle.survey.specs.Sheet.{sheet_length, sheet_bytes, find_row}
 use Rattle.line.specs.Row.{row_length, row_bytes}
 use Rattle.line.proofs.Law.Row.{length_row, RowFits, row_of_bytes}
 use Rattle.codec.proofs.Law.Bytes.{Stands, stands_at, stands_first, stands_second, stands_taken}

@@ -1,7 +1,8 @@
--- The sums of rows, as the code makes them: one row after the other, none past 64 bits, since no row is above the greatest line and 32 of those fit.
-use Rattle.std.specs.Prelude.{ℕ, zero, suc, ◌+◌, ◌*◌, ◌≤◌, ◌<◌, ◌≡◌, List, [], ◌∷◌, length, get_or, take}
-use Rattle.std.proofs.Common.{zero-le, arith, lit≤}
-use Rattle.survey.specs.Bounds.{RowsSmall}
+-- The sums of rows: none is past 64 bits, since no row is above the greatest line and 32 of those fit. The code has them from the library's sum.
+use Rattle.std.specs.Prelude.{ℕ, zero, suc, ◌+◌, ◌*◌, ◌≤◌, ◌<◌, ◌≡◌, List, [], ◌∷◌, length, get_or, take, sum_by, refl, ◌^◌}
+use Rattle.std.proofs.Common.{zero-le, arith, lit≤, ap, ◌∙◌}
+use Rattle.std.proofs.lemmas.List.Sums.{sum_by-cons}
+use Rattle.survey.specs.Bounds.{RowsSmall, FewSmall}
 use Rattle.biomass.specs.Report.{gives}
 use Rattle.biomass.specs.Project.{project_of, project}
 use Rattle.biomass.proofs.Law.Answers.{project_answers}
@@ -39,3 +40,24 @@ unfolding sum_of
 sum_one_more figure [] i z h = absurd (omega arith)
 sum_one_more figure (r ∷ rows) zero z h = omega arith
 sum_one_more figure (r ∷ rows) (suc i) z h = omega (arith, sum_one_more figure rows i z (omega arith))
+
+-- ---- the library's sums are these
+
+pub sum_is : (figure : Row → ℕ) (rows : List Row) → sum_by figure rows ≡ sum_of figure rows
+unfolding sum_of
+sum_is figure [] = refl
+sum_is figure (r ∷ rows) = sum_by-cons figure r rows ∙ ap (λ (n : ℕ). figure r + n) (sum_is figure rows)
+
+pub sum_added : (figure : Row → ℕ) (rows : List Row) {n : ℕ} → n ≡ sum_by figure rows → n ≡ sum_of figure rows
+sum_added figure rows e = e ∙ sum_is figure rows
+
+-- those of at most 32 small rows fit 64 bits
+module _ (rows : List Row) (h : FewSmall rows) where
+  pub trees_fit : sum_by row_trees rows < 2 ^ 64
+  trees_fit = rw (sum_is row_trees rows) (let small = sums_small rows h.small in omega (arith, h.few))
+
+  pub highs_fit : sum_by high_of rows < 2 ^ 64
+  highs_fit = rw (sum_is high_of rows) (let small = sums_small rows h.small in omega (arith, h.few))
+
+  pub lows_fit : sum_by low_of rows < 2 ^ 64
+  lows_fit = rw (sum_is low_of rows) (let small = sums_small rows h.small in omega (arith, h.few))

@@ -1,19 +1,18 @@
 -- The fresh survey is valid, and every command that is taken leaves a valid survey valid: what it changes has passed its checks (Law.Effect), and what was
 -- noted before stays as it was (Law.Stable).
-use Rattle.std.specs.Prelude.{ℕ, zero, suc, ◌<◌, ◌≡◌, refl, Bool, true, false, cond, ◌≢◌, List, [], ◌∷◌, ◌++◌, length, get_or, set, replicate, ltb}
+use Rattle.std.specs.Prelude.{ℕ, zero, suc, ◌<◌, ◌≡◌, refl, Bool, true, false, ◌||◌, ◌≢◌, List, [], ◌∷◌, ◌++◌, Option, None, Some, length, get_or, set, replicate}
 use Rattle.std.proofs.Common.{zero-le, add-one, arith, ◌∙◌, sym, ap, subst, true≢false, length-set, get_or-set_same, get_or-set_other, take-suc-set}
 use Rattle.std.proofs.Math.Decide.{ℕ_discrete}
-use Rattle.std.proofs.lemmas.Bool.{false≢true}
 use Rattle.std.proofs.lemmas.List.{length-replicate}
-use Rattle.biomass.specs.Whole.{inside}
-use Rattle.biomass.specs.Report.{Report, refused, gives}
-use Rattle.line.specs.Line.{factor_at, empty_row}
-use Rattle.survey.specs.Survey.{leaves, undeclared, no_line, fresh, species_at, with_tables, with_state, declared, opened, closing_row}
+use Rattle.biomass.specs.Bounds.{Inside}
+use Rattle.biomass.specs.Report.{Report, refused, gives, leaves}
+use Rattle.line.specs.Line.{factor_at}
+use Rattle.survey.specs.Survey.{no_row, fresh, species_at, rows_of, with_tables, with_state, opened, closing_row}
 use Rattle.rules.specs.Checks.{most_lines, is_line, any_line}
 use Rattle.survey.specs.Apply.{apply, reached}
 use Rattle.survey.specs.Valid.{ValidSpecies, ValidFactor, ValidLine, Within, Apart, none, more, Valid}
-use Rattle.survey.specs.Sheet.{rows_of}
-use Rattle.survey.proofs.Law.Checks.{declared_true, declared_as_lem, is_line_symmetric}
+use Rattle.survey.proofs.Law.Checks.{none_is_some, some_is, is_line_symmetric}
+use Rattle.survey.specs.Closings.{Closing}
 use Rattle.survey.proofs.Law.Closing.{closes_to}
 use Rattle.survey.proofs.Law.Effect.{Follows, Effect, a_species, a_factor, the_line, a_row, effect}
 use Rattle.survey.proofs.Law.Stable.{species_stay}
@@ -35,19 +34,16 @@ pub fresh_valid : Valid fresh
 unfolding fresh
 fresh_valid =
     record {
-      ids = length-replicate 16 undeclared;
-      cms = length-replicate {A = ℕ} 101 0;
-      places = length-replicate most_lines (empty_row no_line);
-      species = λ id h.
-          let none : (species_at fresh id).gravity ≡ 0 = ap (λ (x : Species). x.gravity) (always 16 id undeclared) in
-          let some = (declared_true id fresh h).gravity in
-          absurd (omega arith);
-      factors = λ cm h. let none : factor_at fresh.factors cm ≡ 0 = always 101 cm 0 in absurd (omega arith);
+      ids = length-replicate {A = Option Species} 16 None;
+      cms = length-replicate {A = Option ℕ} 101 None;
+      places = length-replicate most_lines no_row;
+      species = λ id x is. none_is_some (sym (always 16 id None) ∙ is);
+      factors = λ cm x is. none_is_some (sym (always 101 cm None) ∙ is);
       lines = zero-le;
-      room = λ h. absurd (false≢true h);
+      room = λ l is. none_is_some is;
       rows = λ i h. absurd (omega arith);
       apart = none;
-      line = λ h. absurd (false≢true h);
+      line = λ l is. none_is_some is;
       finished = λ h. refl;
     }
 
@@ -63,12 +59,11 @@ set_cases P l i j a d fits at_i elsewhere = by_cases (ℕ_discrete j i)
     by_cases (no other) = subst P (sym (get_or-set_other l i j a d other)) (elsewhere other)
 
 -- a line is valid in a survey as in another where its species and the rows are the same
-line_stays : (s t : Survey) (l : Line) → species_at t l.id ≡ species_at s l.id → rows_of t ≡ rows_of s → ValidLine s l → ValidLine t l
+line_stays : (s t : Survey) (l : Line) → species_at t l.id ≡ Some l.species → rows_of t ≡ rows_of s → ValidLine s l → ValidLine t l
 unfolding opened
-line_stays s t l same rows v =
+line_stays s t l there rows v =
     record {
-      is_declared = declared_as_lem l.id s t same ∙ v.is_declared;
-      species = v.species ∙ sym same;
+      species = there;
       p = v.p;
       q = v.q;
       tally = v.tally;
@@ -79,13 +74,13 @@ line_stays s t l same rows v =
 
 -- what every command that is taken keeps (Law.Stable: species_stay)
 abbrev SpeciesStay : Survey → Survey → Type 0
-SpeciesStay s t = (id : ℕ) → declared id s ≡ true → species_at t id ≡ species_at s id
+SpeciesStay s t = (id : ℕ) (x : Species) → species_at s id ≡ Some x → species_at t id ≡ Some x
 
 module _ (s : Survey) (v : Valid s) where
   -- a species or a factor is given
-  tables_valid : (species : List Species) (factors : List ℕ) → SpeciesStay s (with_tables s species factors) → length species ≡ 16 → length factors ≡ 101
-      → ((id : ℕ) → declared id (with_tables s species factors) ≡ true → ValidSpecies (get_or species id undeclared))
-      → ((cm : ℕ) → 0 < factor_at factors cm → ValidFactor cm (factor_at factors cm)) → Valid (with_tables s species factors)
+  tables_valid : (species : List (Option Species)) (factors : List (Option ℕ)) → SpeciesStay s (with_tables s species factors) → length species ≡ 16
+      → length factors ≡ 101 → ((id : ℕ) (x : Species) → get_or species id None ≡ Some x → ValidSpecies x)
+      → ((cm x : ℕ) → factor_at factors cm ≡ Some x → ValidFactor cm x) → Valid (with_tables s species factors)
   tables_valid species factors stay ids cms species_valid factors_valid =
       record {
         ids = ids;
@@ -97,13 +92,13 @@ module _ (s : Survey) (v : Valid s) where
         room = v.room;
         rows = v.rows;
         apart = v.apart;
-        line = λ is_open. let before = v.line is_open in line_stays s _ s.line (stay s.line.id before.is_declared) refl before;
+        line = λ l is_open. let before = v.line l is_open in line_stays s _ l (stay l.id l.species before.species) refl before;
         finished = v.finished;
       }
 
   -- another line follows, or the end of the book
-  line_valid : {c : Command} {active : Bool} {l : Line} {ended : Bool} → Follows c s active l ended → Valid (with_state s active l ended)
-  line_valid {l} g =
+  line_valid : {c : Command} {next : Option Line} {ended : Bool} → Follows c s next ended → Valid (with_state s next ended)
+  line_valid g =
       record {
         ids = v.ids;
         cms = v.cms;
@@ -114,22 +109,22 @@ module _ (s : Survey) (v : Valid s) where
         room = g.room v;
         rows = v.rows;
         apart = v.apart;
-        line = λ is_open. line_stays s _ l refl refl (g.line v is_open);
+        line = λ l is_open. let follows = g.line v l is_open in line_stays s _ l follows.species refl follows;
         finished = g.finished v;
       }
 
 -- ---- a row more
 
-either : (s t : Bool) → cond s true t ≡ false → (s ≡ false) × (t ≡ false)
+either : (s t : Bool) → s || t ≡ false → (s ≡ false) × (t ≡ false)
 either true t e = absurd (true≢false e)
 either false t e = (refl, e)
 
 any_after : (stratum id : ℕ) (l : List Row) (r : Row) → any_line stratum id l ≡ false → is_line stratum id r ≡ false →
     any_line stratum id (l ++ (r ∷ [])) ≡ false
-any_after stratum id [] r h is = ap (λ (test : Bool). cond test true false) is
+any_after stratum id [] r h is = ap (λ (test : Bool). test || false) is
 any_after stratum id (x ∷ l) r h is =
     let parts = either (is_line stratum id x) (any_line stratum id l) h in
-    ap (λ (test : Bool). cond test true (any_line stratum id (l ++ (r ∷ [])))) parts.0 ∙ any_after stratum id l r parts.1 is
+    ap (λ (test : Bool). test || any_line stratum id (l ++ (r ∷ []))) parts.0 ∙ any_after stratum id l r parts.1 is
 
 -- a row after others is apart from them where none of them is of its stratum and species
 apart_after : (r : Row) {l : List Row} → Apart l → any_line r.stratum r.species l ≡ false → Apart (l ++ (r ∷ []))
@@ -142,7 +137,7 @@ close_valid : (s t : Survey) → Valid s → apply Command.Close s ≡ gives t �
 unfolding opened closing_row
 close_valid s t v e =
     let g = closes_to s t v e in
-    let r = closing_row s in
+    let r = closing_row s.factors g.line in
     let fits : s.closed < length s.rows = omega (arith, v.places, g.room) in
     subst Valid (sym g.is) (record {
       ids = v.ids;
@@ -151,28 +146,28 @@ close_valid s t v e =
       species = v.species;
       factors = v.factors;
       lines = omega (arith, g.room);
-      room = λ is_open. absurd (false≢true is_open);
+      room = λ l is. none_is_some is;
       rows = λ i h.
-          set_cases Within s.rows s.closed i r (empty_row no_line) fits (λ same. g.within) (λ other. v.rows i (omega arith));
-      apart = rw (add-one, take-suc-set s.rows s.closed r fits) (apart_after r v.apart (v.line g.is_open).first);
-      line = λ is_open. absurd (false≢true is_open);
+          set_cases Within s.rows s.closed i r no_row fits (λ same. g.within) (λ other. v.rows i (omega arith));
+      apart = rw (add-one, take-suc-set s.rows s.closed r fits) (apart_after r v.apart (v.line g.line g.is_open).first);
+      line = λ l is. none_is_some is;
       finished = λ ended. refl;
     })
 
 -- ---- every command that is taken
 
-effect_valid : {c : Command} {s t : Survey} {ss : List Survey} → Valid s → Effect c s t ss → SpeciesStay s t → Valid t
+effect_valid : {c : Command} {s t : Survey} {closes : List Closing} → Valid s → Effect c s t closes → SpeciesStay s t → Valid t
 effect_valid {s} v (a_species {id = new} {x} g) stay =
-    tables_valid s v (set s.species new x) s.factors stay (length-set s.species new x ∙ v.ids) v.cms
-    (λ id.
-    set_cases (λ (y : Species). cond (inside 0 id 15) (ltb 0 y.gravity) false ≡ true → ValidSpecies y)
-    s.species new id x undeclared (omega (arith, v.ids)) (λ same h. g.in_range) (λ other. v.species id))
+    tables_valid s v (set s.species new (Some x)) s.factors stay (length-set s.species new (Some x) ∙ v.ids) v.cms
+    (λ id y.
+    set_cases (λ (o : Option Species). o ≡ Some y → ValidSpecies y) s.species new id (Some x) None (omega (arith, v.ids))
+    (λ same is. subst ValidSpecies (some_is is) g.in_range) (λ other. v.species id y))
     v.factors
 effect_valid {s} v (a_factor {cm = new} {x} g) stay =
-    tables_valid s v s.species (set s.factors new x) stay v.ids (length-set s.factors new x ∙ v.cms) v.species
-    (λ cm.
-    set_cases (λ (y : ℕ). 0 < y → ValidFactor cm y) s.factors new cm x 0 (omega (arith, v.cms))
-    (λ same h. record { whole_cm = omega arith; hundredths = g.hundredths }) (λ other. v.factors cm))
+    tables_valid s v s.species (set s.factors new (Some x)) stay v.ids (length-set s.factors new (Some x) ∙ v.cms) v.species
+    (λ cm y.
+    set_cases (λ (o : Option ℕ). o ≡ Some y → ValidFactor cm y) s.factors new cm (Some x) None (omega (arith, v.cms))
+    (λ same is. record { whole_cm = omega arith; hundredths = subst (λ (z : ℕ). Inside 100 z 200) (some_is is) g.hundredths }) (λ other. v.factors cm y))
 effect_valid {s} v (the_line g) stay = line_valid s v g
 effect_valid {s} v (a_row r e) stay = close_valid s _ v e
 
@@ -180,17 +175,17 @@ pub apply_valid : (c : Command) (s t : Survey) → Valid s → apply c s ≡ giv
 apply_valid c s t v e = effect_valid v (effect c s t e) (species_stay c s t e)
 
 -- so a valid survey is left valid, whether a command is taken or refused, and every survey that is reached from a fresh one is valid
-pub after_valid : (c : Command) (s : Survey) → Valid s → Valid (leaves s (apply c s)).survey
+pub after_valid : (c : Command) (s : Survey) → Valid s → Valid (leaves s (apply c s)).left
 after_valid c s v = by_report (apply c s) refl
   where
-    by_report : (r : Report Survey) → apply c s ≡ r → Valid (leaves s r).survey
+    by_report : (r : Report Survey) → apply c s ≡ r → Valid (leaves s r).left
     by_report (refused n) e = v
     by_report (gives t) e = apply_valid c s t v e
 
 reached_from_valid : (cs : List Command) (s : Survey) → Valid s → Valid (reached cs s)
 unfolding reached
 reached_from_valid [] s v = v
-reached_from_valid (c ∷ cs) s v = reached_from_valid cs (leaves s (apply c s)).survey (after_valid c s v)
+reached_from_valid (c ∷ cs) s v = reached_from_valid cs (leaves s (apply c s)).left (after_valid c s v)
 
 pub reached_valid : (cs : List Command) → Valid (reached cs fresh)
 reached_valid cs = reached_from_valid cs fresh fresh_valid

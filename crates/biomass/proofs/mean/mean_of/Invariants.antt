@@ -10,8 +10,8 @@ invariant-loop-above l = record {
   from_least : least_d ≤ l.low;
   apart : l.low < l.above;
   to_greatest : l.above ≤ greatest_d + 1;
-  holds : square (2 * l.low - 1) * l.n ≤ square_scale * l.squares;
-  fails : square_scale * l.squares < square (2 * l.above - 1) * l.n;
+  holds : square (2 * l.low - 1) * l.n.number ≤ square_scale * l.squares;
+  fails : square_scale * l.squares < square (2 * l.above - 1) * l.n.number;
 }
 
 abbrev pub decreases-loop-above : goal.decreases-loop-above

@@ -7,4 +7,4 @@ use Rattle.biomass.proofs.stem.stem_in_range.Goals as goal
 pub returns : goal.returns
 returns c =
     let v = c.volume-v.ensures in
-    ap range (sym (stem_ends_lem (record { low = v.0; high = v.1; most = v.2 }) c.args.factor c.args.gravity))
+    ap range (sym (stem_ends_lem (record { low = v.0; high = v.1; most = v.2 }) c.args.factor.number c.args.gravity.number))

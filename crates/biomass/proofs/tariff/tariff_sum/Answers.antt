@@ -1,89 +1,60 @@
--- `biomass::tariff::tariff_sum` meets its contract: the constants are below 2^31 in size, the diameter is at most 100 and the height at most 600, so every term and
--- sum is far from the ends of 64 bits, and what the machine reads back is the whole number itself.
-use Rattle.std.proofs.Common.{◌+◌, ◌*◌, ◌^◌, ℤ, pos, ◌+ℤ◌, ◌*ℤ◌, w64, to_z}
-use Rattle.biomass.proofs.Small.{Small, local, local32, fits, kept, plus, times, numeral, word, natural}
+-- `biomass::tariff::tariff_sum` meets its contract: each product is small (`times`), so every sum is far from the ends of 64 bits, and what the machine
+-- reads back is the whole number itself.
+use Rattle.std.proofs.Common.{◌≡◌, ◌∙◌, sym, ◌+◌, ◌*◌, ◌^◌, ◌≤◌, ◌<◌, ℕ, ℤ, pos, nat_abs, ◌+ℤ◌, ◌*ℤ◌, lt_of_le_of_lt, lit<, arith}
+use Rattle.std.proofs.Math.IntN.{*ℤ_comm}
+use Rattle.std.specs.Int.Signed.{mag}
+use Rattle.biomass.specs.Tariff.{tariff_sum}
+use Rattle.biomass.proofs.Law.Signed.{times_times}
+use Rattle.biomass.proofs.Small.{Small, local, local32, fits, kept, plus, numeral, word, read_back, mag_le}
 use Rattle.biomass.proofs.tariff.tariff_sum.Goals as goal
 
--- a constant cast to 64 bits, in a local
-abbrev wide : ℤ → ℤ
-wide x = local (local32 x)
+abbrev most : ℕ
+most = 2 ^ 31 * 60000
 
--- the four terms, as the code works them
-abbrev X1 : goal.Start → ℤ
-X1 c = pos 10 *ℤ wide c.args.c1
+-- what `times` promises of a product
+abbrev Product : ℤ → ℤ → Type 0
+Product r x = (r ≡ x) × (nat_abs r ≤ most)
 
-abbrev X2 : goal.Start → ℤ
-X2 c = wide c.args.c2 *ℤ to_z w64 c.args.tenths
+addend : {r x : ℤ} → Product r x → Small (local r) x most
+addend {r} p = record { is = read_back (lt_of_le_of_lt (mag_le r) (lt_of_le_of_lt p.1 (lit< tt))) ∙ p.0; size = rw (sym p.0) p.1 }
 
-abbrev X3 : goal.Start → ℤ
-X3 c = local (pos 10 *ℤ wide c.args.c3) *ℤ to_z w64 c.args.cm
+two : {p q x y : ℤ} → Product p x → Product q y → Small (local p +ℤ local q) (x +ℤ y) (most + most)
+two p q = plus (addend p) (addend q)
 
-abbrev X4 : goal.Start → ℤ
-X4 c = local (wide c.args.c4 *ℤ to_z w64 c.args.cm) *ℤ to_z w64 c.args.tenths
+three : {p q r x y z : ℤ} → Product p x → Product q y → Product r z → Small (local (local p +ℤ local q) +ℤ local r) (x +ℤ y +ℤ z) (most + most + most)
+three p q r = plus (kept (two p q) tt) (addend r)
 
-module _ (c : goal.Start) where
-  D : Small (to_z w64 c.args.cm) (pos c.args.cm) 100
-  D = natural 100 c.requires.0.most tt
+module _ {p q r s x y z u : ℤ} (P : Product p x) (Q : Product q y) (R : Product r z) (S : Product s u) where
+  four : Small (local (local (local p +ℤ local q) +ℤ local r) +ℤ local s) (x +ℤ y +ℤ z +ℤ u) (most + most + most + most)
+  four = plus (kept (three P Q R) tt) (addend S)
 
-  h : Small (to_z w64 c.args.tenths) (pos c.args.tenths) 600
-  h = natural 600 c.requires.1.most tt
-
-  term_1 : Small (X1 c) (pos 10 *ℤ c.args.c1) (10 * 2 ^ 31)
-  term_1 = times (numeral 10) (kept (word c.ranges.c1) tt)
-
-  term_2 : Small (X2 c) (c.args.c2 *ℤ pos c.args.tenths) (2 ^ 31 * 600)
-  term_2 = times (kept (word c.ranges.c2) tt) h
-
-  ten_c3 : Small (pos 10 *ℤ wide c.args.c3) (pos 10 *ℤ c.args.c3) (10 * 2 ^ 31)
-  ten_c3 = times (numeral 10) (kept (word c.ranges.c3) tt)
-
-  term_3 : Small (X3 c) (pos 10 *ℤ c.args.c3 *ℤ pos c.args.cm) (10 * 2 ^ 31 * 100)
-  term_3 = times (kept ten_c3 tt) D
-
-  c4_D : Small (wide c.args.c4 *ℤ to_z w64 c.args.cm) (c.args.c4 *ℤ pos c.args.cm) (2 ^ 31 * 100)
-  c4_D = times (kept (word c.ranges.c4) tt) D
-
-  term_4 : Small (X4 c) (c.args.c4 *ℤ pos c.args.cm *ℤ pos c.args.tenths) (2 ^ 31 * 100 * 600)
-  term_4 = times (kept c4_D tt) h
-
-  two : Small (local (X1 c) +ℤ local (X2 c)) (pos 10 *ℤ c.args.c1 +ℤ c.args.c2 *ℤ pos c.args.tenths) (10 * 2 ^ 31 + 2 ^ 31 * 600)
-  two = plus (kept term_1 tt) (kept term_2 tt)
-
-  three :
+  all :
       Small
-      (local (local (X1 c) +ℤ local (X2 c)) +ℤ local (X3 c))
-      (pos 10 *ℤ c.args.c1 +ℤ c.args.c2 *ℤ pos c.args.tenths +ℤ pos 10 *ℤ c.args.c3 *ℤ pos c.args.cm)
-      (10 * 2 ^ 31 + 2 ^ 31 * 600 + 10 * 2 ^ 31 * 100)
-  three = plus (kept two tt) (kept term_3 tt)
+      (local (local (local (local p +ℤ local q) +ℤ local r) +ℤ local s) +ℤ pos 50000000)
+      (x +ℤ y +ℤ z +ℤ u +ℤ pos 50000000)
+      (most + most + most + most + 50000000)
+  all = plus (kept four tt) (numeral 50000000)
 
-  four :
-      Small
-      (local (local (local (X1 c) +ℤ local (X2 c)) +ℤ local (X3 c)) +ℤ local (X4 c))
-      (pos 10 *ℤ c.args.c1 +ℤ c.args.c2 *ℤ pos c.args.tenths +ℤ pos 10 *ℤ c.args.c3 *ℤ pos c.args.cm
-      +ℤ c.args.c4 *ℤ pos c.args.cm *ℤ pos c.args.tenths)
-      (10 * 2 ^ 31 + 2 ^ 31 * 600 + 10 * 2 ^ 31 * 100 + 2 ^ 31 * 100 * 600)
-  four = plus (kept three tt) (kept term_4 tt)
+-- a constant that is cast to itself
+word_is : (c : ℤ) → mag c < 2 ^ 31 → local32 c ≡ c
+word_is c small = (word (record { sfits = small })).is
 
-pub overflow_add-result : goal.overflow_add-result
-overflow_add-result c = fits (two c) tt
-
-pub overflow_mul-result-4 : goal.overflow_mul-result-4
-overflow_mul-result-4 c = fits (term_3 c) tt
+terms : (c1 c2 c3 c4 : ℤ) (D h : ℕ) →
+    c1 *ℤ pos 10 +ℤ c2 *ℤ pos h +ℤ c3 *ℤ pos (10 * D) +ℤ c4 *ℤ pos (D * h) +ℤ pos 50000000 ≡ tariff_sum c1 c2 c3 c4 D h
+terms c1 c2 c3 c4 D h = rw (times_times c3 10 D, times_times c4 D h, *ℤ_comm c1 (pos 10), *ℤ_comm c3 (pos 10))
 
 pub overflow_add-result-2 : goal.overflow_add-result-2
-overflow_add-result-2 c = fits (three c) tt
-
-pub overflow_mul-result-5 : goal.overflow_mul-result-5
-overflow_mul-result-5 c = fits (c4_D c) tt
-
-pub overflow_mul-result-6 : goal.overflow_mul-result-6
-overflow_mul-result-6 c = fits (term_4 c) tt
+overflow_add-result-2 c = fits (three c.times.ensures c.times-2.ensures c.times-3.ensures) tt
 
 pub overflow_add-result-3 : goal.overflow_add-result-3
-overflow_add-result-3 c = fits (four c) tt
+overflow_add-result-3 c = fits (four c.times.ensures c.times-2.ensures c.times-3.ensures c.times-4.ensures) tt
 
 pub overflow_add-result-4 : goal.overflow_add-result-4
-overflow_add-result-4 c = fits (plus (kept (four c) tt) (numeral 50000000)) tt
+overflow_add-result-4 c = fits (all c.times.ensures c.times-2.ensures c.times-3.ensures c.times-4.ensures) tt
 
 pub returns : goal.returns
-returns c = (kept (plus (kept (four c) tt) (numeral 50000000)) tt).is
+returns c =
+    let s = c.args.constants in
+    (kept (all c.times.ensures c.times-2.ensures c.times-3.ensures c.times-4.ensures) tt).is
+    ∙ rw (word_is s.c1 (omega arith), word_is s.c2 (omega arith), word_is s.c3 (omega arith), word_is s.c4 (omega arith))
+    (terms s.c1 s.c2 s.c3 s.c4 c.args.cm.number c.args.tenths.number)

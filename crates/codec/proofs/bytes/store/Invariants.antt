@@ -9,6 +9,3 @@ invariant-loop-i l = record {
   stored : l.buffer ≡ stored_at l.initial.buffer (l.at + l.i) (bytes (l.width - l.i) l.x);
   left : l.rest ≡ l.x / 256 ^ (l.width - l.i);
 }
-
-abbrev pub decreases-loop-i : goal.decreases-loop-i
-decreases-loop-i l = l.i

@@ -4,5 +4,5 @@ use Rattle.powers.proofs.Law.Scaled.{near, tested}
 use Rattle.powers.proofs.Power.{holds_w, read_is_w}
 use Rattle.powers.proofs.crown.crown_power.Goals as goal
 
-pub returns : goal.returns
-returns c = rw (read_is_w _ c.args.d (omega arith) (omega arith)) (unfold holds_w tested near in refl)
+pub returns-in-70-to-500 : goal.returns-in-70-to-500
+returns-in-70-to-500 c = rw (read_is_w _ c.args.d (omega arith) (omega arith)) (unfold holds_w tested near in refl)

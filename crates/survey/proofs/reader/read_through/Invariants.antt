@@ -10,9 +10,10 @@ after n r = (n + length r.commands, r.at, r.why)
 
 abbrev pub invariant-loop-why : goal.invariant-loop-why
 invariant-loop-why l = record {
-  counted_so_far : l.commands ≤ l.at;
-  same : after l.commands (reach l.book l.at) ≡ counted (reach l.fn.book l.fn.from);
+  same_book : l.reader.book.now ≡ l.book;
+  counted_so_far : l.commands ≤ l.reader.at;
+  same : after l.commands (reach l.reader.book.now l.reader.at) ≡ counted (reach l.fn.book l.fn.from);
 }
 
 abbrev pub decreases-loop-why : goal.decreases-loop-why
-decreases-loop-why l = length l.book - l.at
+decreases-loop-why l = length l.reader.book.now - l.reader.at

@@ -13,10 +13,5 @@ loop-i-init c = search rules
 
 pub loop-i-preserved : goal.loop-i-preserved
 loop-i-preserved c =
-    let s = c.loop-i.invariant in
-    record {
-      within = omega arith;
-      stored =
-          let one_more = stored_one_more c.args.sheet.now c.args.rows c.loop-i.i _ (omega arith) in
-          c.store_row.ensures ∙ store_fits c.loop-i.sheet _ _ (omega (arith, length_row)) ∙ rw s.stored one_more;
-    }
+    let one_more = stored_one_more c.args.sheet.now c.args.rows.now c.loop-i.i _ (omega arith) in
+    c.store_row.ensures ∙ store_fits c.loop-i.sheet _ _ (omega (arith, length_row)) ∙ rw c.loop-i.invariant one_more

@@ -1,14 +1,8 @@
 -- `survey::sheet::store_rows` meets its contract. The loop's invariant: the first i rows are stored, and nothing else has changed.
-use Rattle.std.proofs.Common.{◌-◌, ◌≡◌, ◌≤◌, take}
+use Rattle.std.proofs.Common.{◌≡◌, take}
 use Rattle.codec.specs.Bytes.{stored_at}
 use Rattle.survey.specs.Sheet.{sheet_bytes}
 use Rattle.survey.proofs.sheet.store_rows.Given as goal
 
 abbrev pub invariant-loop-i : goal.invariant-loop-i
-invariant-loop-i l = record {
-  within : l.i ≤ l.closed;
-  stored : l.sheet ≡ stored_at l.fn.sheet 0 (sheet_bytes (take l.i l.rows));
-}
-
-abbrev pub decreases-loop-i : goal.decreases-loop-i
-decreases-loop-i l = l.closed - l.i
+invariant-loop-i l = l.sheet ≡ stored_at l.fn.sheet 0 (sheet_bytes (take l.i l.rows))

@@ -1,37 +1,28 @@
 -- `survey::total::total` meets its contract: its test is the definition's, and then what playing the book came to decides. Demand 3 holds of what is
 -- answered, whatever it is (Law.Demand3).
-use Rattle.std.proofs.Common.{◌≡◌, ℕ, ◌≤◌, ◌<◌, List, length, refl, sym, ap, subst, ◌∙◌, rules, lt-ltb, le-ltb}
+use Rattle.std.proofs.Common.{◌≡◌, ℕ, ◌≤◌, ◌<◌, List, length, refl, sym, ap, subst, ◌∙◌, rules, arith, lt-ltb, le-ltb}
 use Rattle.codec.specs.Bytes.{stored_at}
-use Rattle.codec.specs.Refusal.{number}
-use Rattle.codec.specs.declared.refusal.Refusal.{Refusal}
-use Rattle.rules.specs.Checks.{most_lines}
-use Rattle.survey.specs.Playing.{Played, ended, stopped, played, play}
-use Rattle.survey.specs.Sheet.{sheet_length, sheet_bytes, rows_of}
+use Rattle.line.specs.declared.row.Row.{Row}
+use Rattle.survey.specs.Bounds.{FewSmall}
+use Rattle.survey.specs.Playing.{Played, ended, stopped, play}
+use Rattle.survey.specs.Survey.{rows_of}
+use Rattle.survey.specs.Sheet.{sheet_length, sheet_bytes}
 use Rattle.survey.specs.Total.{Answer, refused_at, totalled, total_of, answer_of, total, stored_by, sheet_after}
 use Rattle.survey.specs.Demand3.{Demanded}
 use Rattle.survey.specs.Promise.{Promised}
 use Rattle.survey.proofs.Law.Playing.{play_valid}
-use Rattle.survey.specs.Bounds.{RowsSmall}
+use Rattle.survey.proofs.Law.Sheet.{rows_at_most}
 use Rattle.survey.proofs.Law.Total.{total_applied, sheet_applied}
 use Rattle.survey.proofs.Law.Demand3.{rows_small, demanded}
-use Rattle.survey.specs.declared.survey.Outcome.{Outcome}
-use Rattle.survey.specs.declared.playing.Played as Code
+use Rattle.survey.specs.declared.survey.Survey.{Survey}
+use Rattle.survey.specs.declared.total.Totals.{Totals}
 use Rattle.survey.proofs.total.total.Goals as goal
 
--- what the code's routine says the book is played to, by the outcome of the last command: to a refusal, or to its end
-module _ (book : List ℕ) (p : Code.Played) (promise : played p ≡ play book) where
-  to_refusal : {why : Refusal} → p.outcome ≡ Outcome.Refused why → play book ≡ stopped (number why) p.at
-  to_refusal e = sym promise ∙ rw e
-
-  to_end : p.outcome ≡ Outcome.Done → play book ≡ ended p.survey
-  to_end e = sym promise ∙ rw e
-
-  -- the survey at the end is valid, so that its rows are few and small
-  at_end_few : p.outcome ≡ Outcome.Done → p.survey.closed ≤ most_lines
-  at_end_few e = (play_valid book p.survey (to_end e)).lines
-
-  at_end_small : p.outcome ≡ Outcome.Done → RowsSmall (rows_of p.survey)
-  at_end_small e = rows_small p.survey (play_valid book p.survey (to_end e))
+-- the survey at the end of a book is valid, so that its rows are few and small
+few_small : (book : List ℕ) {s : Survey} {rows : List Row} → ended s ≡ play book → rows ≡ rows_of s → FewSmall rows
+few_small book {s} is are =
+    let v = play_valid book s (sym is) in
+    subst FewSmall (sym are) (record { few = rows_at_most s v; small = rows_small s v })
 
 module _ (book sheet : List ℕ) where
   -- demand 3 holds of what is answered
@@ -43,30 +34,28 @@ module _ (book sheet : List ℕ) where
   unfolding total sheet_after
   no_room h = promised (rw lt-ltb) (rw lt-ltb)
 
-  -- with room
+  -- with room: a refusal leaves the sheet as it was, and at the end the rows are stored
   module _ (enough : sheet_length ≤ length sheet) where
-    by_playing : {q : Played} {r : Answer} {x : List ℕ} → play book ≡ q → r ≡ answer_of q → x ≡ stored_by sheet q → Promised book sheet r x
+    by_playing : {q : Played} {a : Answer} {x : List ℕ} → q ≡ play book → a ≡ answer_of q → x ≡ stored_by sheet q → Promised book sheet a x
     by_playing is answer laid =
-        promised (answer ∙ ap answer_of (sym is) ∙ rw (total_applied book sheet, le-ltb))
-        (laid ∙ ap (stored_by sheet) (sym is) ∙ rw (sheet_applied book sheet, le-ltb))
+        promised (answer ∙ ap answer_of is ∙ rw (total_applied book sheet, le-ltb))
+        (laid ∙ ap (stored_by sheet) is ∙ rw (sheet_applied book sheet, le-ltb))
 
-    -- a refusal leaves the sheet as it was, and at the end the rows are stored
-    module _ (p : Code.Played) (promise : played p ≡ play book) where
-      at_refusal : {why : Refusal} → p.outcome ≡ Outcome.Refused why → Promised book sheet (refused_at (number why) p.at) sheet
-      at_refusal e = by_playing (to_refusal book p promise e) refl refl
+    refuses : {n at : ℕ} {a : Answer} → stopped n at ≡ play book → a ≡ refused_at n at → Promised book sheet a sheet
+    refuses is answer = by_playing is answer refl
 
-      at_end : {r : Answer} {x : List ℕ} → p.outcome ≡ Outcome.Done → r ≡ totalled (total_of (rows_of p.survey))
-          → x ≡ stored_at sheet 0 (sheet_bytes (rows_of p.survey)) → Promised book sheet r x
-      at_end e = by_playing (to_end book p promise e)
+    accepts : {s : Survey} {rows : List Row} {t : Totals} {x : List ℕ} → ended s ≡ play book → rows ≡ rows_of s → t ≡ total_of rows
+        → x ≡ stored_at sheet 0 (sheet_bytes rows) → Promised book sheet (totalled t) x
+    accepts is are totals laid = by_playing is (ap totalled totals ∙ rw are refl) (laid ∙ rw are refl)
 
 pub returns-then-sheet-lt-SHEET_LENGTH-clause-promise : goal.returns-then-sheet-lt-SHEET_LENGTH-clause-promise
 returns-then-sheet-lt-SHEET_LENGTH-clause-promise c = search (rules, no_room)
 
+pub returns-in_err-survey-clause-promise : goal.returns-in_err-survey-clause-promise
+returns-in_err-survey-clause-promise c = refuses _ _ (omega arith) c.in_err-survey.ensures (search rules)
+
 pub total_rows-requires : goal.total_rows-requires
-total_rows-requires c = search (rules, at_end_few, at_end_small)
+total_rows-requires c = (few_small c.args.book.now c.in_ok-survey.ensures c.closed_rows.ensures, omega arith)
 
-pub returns-in-Refused-clause-promise : goal.returns-in-Refused-clause-promise
-returns-in-Refused-clause-promise c = search (rules, at_refusal)
-
-pub returns-in-Done-clause-promise : goal.returns-in-Done-clause-promise
-returns-in-Done-clause-promise c = search (rules, at_end)
+pub returns-clause-promise : goal.returns-clause-promise
+returns-clause-promise c = accepts _ _ (omega arith) c.in_ok-survey.ensures c.closed_rows.ensures c.total_rows.ensures.totals c.total_rows.ensures.stored

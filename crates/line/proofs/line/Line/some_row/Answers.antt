@@ -18,12 +18,12 @@ scaled_few n p q N e =
 
 -- a mean that is given is at most the greatest d, so that the table of factors has a place for it
 pub bounds-factors-cm : goal.bounds-factors-cm
-bounds-factors-cm c = omega (arith, (mean_gives _ _ _ (sym c.in-Is.ensures)).range)
+bounds-factors-cm c = omega (arith, (mean_gives _ _ _ (sym c.in_ok-d.ensures)).range)
 
 pub worked-requires : goal.worked-requires
 worked-requires c = (
-  line_tariff_range _ _ _ (sym c.in-Is-line_tariff.ensures),
-  (mean_gives _ _ _ (sym c.in-Is.ensures)).range,
-  scaled_few _ _ _ _ (sym c.in-Is-scale.ensures),
-  scaled_few _ _ _ _ (sym c.in-Is-scale-2.ensures),
+  line_tariff_range _ _ _ (sym c.in_ok-tariff.ensures),
+  (mean_gives _ _ _ (sym c.in_ok-d.ensures)).range,
+  scaled_few _ _ _ _ (sym c.in_ok-measured.ensures),
+  scaled_few _ _ _ _ (sym c.in_ok-small.ensures),
 )

@@ -5,4 +5,4 @@ use Rattle.line.proofs.line.Line.worked.Goals as goal
 
 -- the biomass of a row that is answered is within that of the greatest row
 pub row_gaining-requires : goal.row_gaining-requires
-row_gaining-requires c = let bounds = row_bounds _ _ _ (sym c.in-Is.ensures) in (bounds.ordered, bounds.small)
+row_gaining-requires c = let bounds = row_bounds _ _ _ (sym c.in_ok-biomass.ensures) in (bounds.ordered, bounds.small)

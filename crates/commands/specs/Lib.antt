@@ -1,0 +1,2 @@
+-- The words in which the program `commands` prints a command.
+pub mod Words

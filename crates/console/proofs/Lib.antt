@@ -1,2 +1,0 @@
--- Laws that the proofs of several routines share.
-pub mod Printing

@@ -1,0 +1,2 @@
+-- What the numbers of a sheet look like.
+pub mod Digits

@@ -1,0 +1,2 @@
+-- The lines that the program `sheet` prints.
+pub mod Lines
