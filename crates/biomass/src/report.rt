@@ -5,9 +5,9 @@ ghost use Rattle.biomass.specs.Report.{refusal_number};
 #[derive(Clone, Copy, Debug, PartialEq, Eq)]
 pub enum Refusal {
     // An operand is outside its range.
-    Operand,
+    Operand = 6,
     // The tariff is outside 1 to 50.
-    Tariff,
+    Tariff = 13,
 }
 
 impl Refusal {
@@ -15,9 +15,6 @@ impl Refusal {
     pub fn number(self) -> u8
         ensures { result ≡ refusal_number self }
     {
-        match self {
-            Refusal::Operand => 6,
-            Refusal::Tariff => 13,
-        }
+        self as u8
     }
 }

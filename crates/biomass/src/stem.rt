@@ -54,6 +54,7 @@ fn stem_in_range(tariff: Tariff, d: Diameter, factor: Factor, gravity: Gravity) 
 }
 
 // The biomass of a stem of the mean diameter d, UNITS_TO_CM to the cm, at a tariff; the factor and the gravity are in hundredths.
+// Four operands and no struct, as the single figure has them in document 01 and in C; a tree's are in `AverageTree`.
 #[tactic(auto, unfolding(crate::specs::Stem::stem))]
 pub fn stem(tariff: u64, d: u64, factor: u64, gravity: u64) -> Result<BiomassRange, Refusal>
     ensures { report refusal_number result ≡ stem tariff d factor gravity }

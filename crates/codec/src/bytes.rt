@@ -29,13 +29,14 @@ fn bytes_from<const N: usize>(s: &[u8], at: usize) -> [u8; N]
 {
     let rest = rest(s, at);
     let mut all = [0; N];
+    // Not `array::from_fn`, of whose closure it is not promised that it leaves the slice as it is.
     for i in 0..N {
         all[i] = byte(rest, i);
     }
     all
 }
 
-// The number in the two bytes from a place on.
+// The number in the two bytes from a place on. This one and the next two stay apart, since their numbers are of three types.
 pub fn two(s: &[u8], at: usize) -> u16
     ensures { result ≡ number_at 2 s.now at }
 {
@@ -77,7 +78,7 @@ pub fn bits_of(x: i32) -> u32
     x.cast_unsigned()
 }
 
-// Stores the last `width` bytes of a number from a place on, and answers the place after them. Where there is no room for all of
+// Stores the last `width` bytes of a number, of any width, from a place on, and answers the place after them. Where there is no room for all of
 // them, nothing is written, and the answer is the place given.
 pub fn store(buffer: &mut [u8], at: usize, width: usize, x: u64) -> usize
     ensures bytes { buffer.new ≡ store buffer.old at (bytes width x) }

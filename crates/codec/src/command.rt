@@ -78,7 +78,7 @@ impl Kind {
     }
 }
 
-// The kind that a command's byte says. All other bytes are unknown.
+// The kind that a command's byte says, by document 01's form: a match, with ranges of unknown bytes.
 impl TryFrom<u8> for Kind {
     type Error = Refusal;
 

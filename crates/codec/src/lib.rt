@@ -1,4 +1,4 @@
-// A command's bytes: the commands of a field book, and reading and writing one. Of `biomass` only the refusals are used here.
+// A command's bytes: the commands of a field book, and reading and writing one. Of `biomass` only the refusals and the constants of a species are used here.
 #![tactic(auto)]
 
 pub mod bytes;

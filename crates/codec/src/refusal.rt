@@ -48,7 +48,8 @@ impl Refusal {
     }
 }
 
-// What a figure declines, as a refusal of the survey: the number is the same.
+// What a figure declines, as a refusal of the survey: the number is the same. Two enums, since a figure declines with these two
+// numbers alone, and says so by its type.
 impl From<biomass::report::Refusal> for Refusal {
     ghost from_gives = { λ why refusal. number refusal ≡ refusal_number why };
 

@@ -45,9 +45,10 @@ impl From<Command> for Numbers {
     ghost from_gives = { λ command n. n.0 ≡ numbers command };
 
     fn from(command: Command) -> Numbers {
+        let byte = u64::from(command.kind().byte());
         Numbers(match command {
             Command::Species(id, s) => [
-                Kind::Species as u64,
+                byte,
                 id as u64,
                 s.crown as u64,
                 s.root as u64,
@@ -57,24 +58,14 @@ impl From<Command> for Numbers {
                 wide(s.constants.c3),
                 wide(s.constants.c4),
             ],
-            Command::Factor { cm, factor } => [
-                Kind::Factor as u64,
-                cm as u64,
-                factor as u64,
-                0,
-                0,
-                0,
-                0,
-                0,
-                0,
-            ],
+            Command::Factor { cm, factor } => [byte, cm as u64, factor as u64, 0, 0, 0, 0, 0, 0],
             Command::Open {
                 stratum,
                 species,
                 p,
                 q,
             } => [
-                Kind::Open as u64,
+                byte,
                 stratum as u64,
                 species as u64,
                 p as u64,
@@ -85,7 +76,7 @@ impl From<Command> for Numbers {
                 0,
             ],
             Command::Measured { class, count } => [
-                Kind::Measured as u64,
+                byte,
                 class as u64,
                 count as u64,
                 0,
@@ -95,21 +86,11 @@ impl From<Command> for Numbers {
                 0,
                 0,
             ],
-            Command::Height { cm, tenths } => [
-                Kind::Height as u64,
-                cm as u64,
-                tenths as u64,
-                0,
-                0,
-                0,
-                0,
-                0,
-                0,
-            ],
-            Command::Close => [Kind::Close as u64, 0, 0, 0, 0, 0, 0, 0, 0],
-            Command::End => [Kind::End as u64, 0, 0, 0, 0, 0, 0, 0, 0],
+            Command::Height { cm, tenths } => [byte, cm as u64, tenths as u64, 0, 0, 0, 0, 0, 0],
+            Command::Close => [byte, 0, 0, 0, 0, 0, 0, 0, 0],
+            Command::End => [byte, 0, 0, 0, 0, 0, 0, 0, 0],
             Command::Small { carbon, count } => [
-                Kind::Small as u64,
+                byte,
                 carbon as u64,
                 count as u64,
                 0,

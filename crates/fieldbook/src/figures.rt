@@ -92,7 +92,7 @@ fn lay_figure<A: Laid>(figure: Result<A, biomass::report::Refusal>, answer: &mut
     lay(figure.map_err(Refusal::from), answer)
 }
 
-// The five single figures of document 01.
+// The five single figures of document 01. Here and below, C has a function of its own name for each, however alike they are.
 
 #[unsafe(no_mangle)]
 pub extern "C" fn fieldbook_single_tariff(

@@ -1,5 +1,5 @@
 -- What the code does of any line at all, also of one that no book reaches: the papers' text, and besides a check wherever a number could otherwise be
--- outside what the next figure is worked from. No promise about a whole book is stated over this (rules/specs/Apply.antt).
+-- outside what the next figure is worked from. No promise about a whole book is stated over this (survey/specs/Apply.antt).
 use Rattle.std.specs.Prelude.{ℕ, ◌+◌, ◌*◌, cond, List, Option, leb, eqb}
 use Rattle.biomass.specs.Whole.{inside}
 use Rattle.biomass.specs.Report.{Report, gives, given, unless, ◌then◌, when}

@@ -42,7 +42,8 @@ pub struct Heights {
     pub tariffs: u64,
 }
 
-// Small trees: the carbon of one in mg, and how many; a count of 0: none are given.
+// Small trees: the carbon of one in mg, and how many; a count of 0: none are given. No `Option`, since step 3 and the row take a
+// count of 0 as any other.
 #[derive(Clone, Copy)]
 pub struct SmallTrees {
     pub carbon: u64,

@@ -439,7 +439,8 @@ const POWER: [u64; 431] = [
     1_613_760_235,
 ];
 
-// The whole units of the crown power at d; 0 where d is not on the curve.
+// The whole units of the crown power at d; 0 where d is not on the curve. No `Option`: whoever asks is on the curve, and a
+// routine that answers any d goes on doing so.
 pub fn crown_power(d: u64) -> u64
     ensures { result ≡ tabled d }
 {

@@ -87,10 +87,10 @@ pub fn opening(
 }
 
 // 07: the book ended, by whether a line is open.
-pub fn ending(is_open: bool) -> Result<(), Refusal>
-    ensures { report number result ≡ ending is_open (gives tt) }
+pub fn ending(line_open: bool) -> Result<(), Refusal>
+    ensures { report number result ≡ ending line_open (gives tt) }
 {
-    if is_open {
+    if line_open {
         return Err(Refusal::LineOpen);
     }
     Ok(())

@@ -1,4 +1,4 @@
-// What each command declines, by the values that it looks at. Of the crates below only the promises are used here.
+// What a declaration, a factor, an opening and the end decline, by the values that they look at. Of the crates below only the promises are used here.
 #![tactic(auto)]
 
 pub mod checks;

@@ -90,13 +90,7 @@ play = play_by apply
 abbrev pub PlaysOn : List ℕ → ℕ → Line → ℕ → Line → Type 0
 PlaysOn book at l next m = (s : Survey) → s.ended ≡ false → s.line ≡ Some l → play_from book at s ≡ play_from book next (with_line s m)
 
--- what one command comes to that is looked for on an open line l, which is m afterwards: it is noted of l, or another command stands there, or it is refused
-abbrev pub Notes : List ℕ → ℕ → Line → Result (Option ℕ) Refusal → Line → Type 0
-Notes book at l (Ok (Some next)) m = (at < next) × (next ≤ length book) × PlaysOn book at l next m
-Notes book at l (Ok None) m = m ≡ l
-Notes book at l (Err why) m = (s : Survey) → s.ended ≡ false → s.line ≡ Some l → play_from book at s ≡ stopped (number why) at
-
--- and any command, of a survey s, which is t afterwards
+-- what one command comes to, of a survey s, which is t afterwards
 abbrev pub Steps : List ℕ → ℕ → Survey → Result ℕ Refusal → Survey → Type 0
 Steps book at s (Ok next) t = s.ended ≡ false → (at < next) × (next ≤ length book) × (play_from book at s ≡ play_from book next t)
 Steps book at s (Err why) t = s.ended ≡ false → play_from book at s ≡ stopped (number why) at

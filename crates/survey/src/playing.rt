@@ -1,6 +1,6 @@
 // Playing a book: its commands are applied to a fresh survey, to the end of the book or to the first refusal.
-ghost use Rattle.std.specs.Prelude.{◌≡◌};
-ghost use Rattle.survey.specs.Playing.{played, Notes, Steps, play};
+ghost use Rattle.std.specs.Prelude.{◌≡◌, ◌≤◌, length, false};
+ghost use Rattle.survey.specs.Playing.{played, PlaysOn, Steps, play_from, play};
 
 use super::survey::Survey;
 use codec::command::Command;
@@ -15,19 +15,40 @@ pub struct Stopped {
     pub at: usize,
 }
 
-// One command of an open line, where it is measured trees or a height tree, and the place after it; None where another
-// command stands. Nearly all commands of a long book are of these two, and they change the line alone: read and taken as all
-// others are, they take twice as long.
-fn note(line: &mut Line, book: &[u8], at: usize) -> Result<Option<usize>, Refusal>
-    ensures { Notes book.now at line.old result line.new }
+// Measured trees and height trees of an open line, from a place on up to the first command that is another or that is
+// refused: the place of that command. Nearly all commands of a long book are of these two, and they change the line alone:
+// read and taken as all others are, they take twice as long, and more where each is noted of the survey.
+fn note_trees(book: &[u8], from: usize, line: &mut Line) -> usize
+    requires { from ≤ length book.now }
+    ensures place { (from ≤ result) × (result ≤ length book.now) }
+    ensures plays { PlaysOn book.now from line.old result line.new }
 {
-    let (command, next) = read_of_line(book, at)?;
-    match command {
-        Command::Measured { class, count } => line.add_trees(class, count)?,
-        Command::Height { cm, tenths } => line.add_height(cm, tenths)?,
-        _ => return Ok(None),
+    let mut at = from;
+    while let Ok((command, next)) = read_of_line(book, at) {
+        let noted = match command {
+            Command::Measured { class, count } => line.add_trees(class, count),
+            Command::Height { cm, tenths } => line.add_height(cm, tenths),
+            _ => return at,
+        };
+        if let Err(_) = noted {
+            return at;
+        }
+        at = next;
     }
-    Ok(Some(next))
+    at
+}
+
+// The same of the survey's open line, where one is open.
+fn pass_trees(book: &[u8], from: usize, survey: &mut Survey) -> usize
+    requires { (survey.old.ended ≡ false) × (from ≤ length book.now) }
+    ensures place { (from ≤ result) × (result ≤ length book.now) }
+    ensures open { survey.new.ended ≡ false }
+    ensures plays { play_from book.now result survey.new ≡ play_from book.now from survey.old }
+{
+    match &mut survey.line {
+        Some(line) => note_trees(book, from, line),
+        None => from,
+    }
 }
 
 // Any command, and the place after it.
@@ -47,21 +68,16 @@ pub(crate) fn play(book: &[u8]) -> Result<Survey, Stopped>
     let mut survey = Survey::new();
     let mut at = 0;
     let stopped = 'lines: loop {
-        if let Some(open) = survey.line {
-            // A copy of its own: noted of the survey itself, the trees take twice as long.
-            let mut line = open;
-            loop {
-                match note(&mut line, book, at) {
-                    Ok(Some(next)) => at = next,
-                    Ok(None) => break,
-                    Err(why) => break 'lines Stopped { why, at },
-                }
+        // The commands of a line; where none is open, one command.
+        loop {
+            at = pass_trees(book, at, &mut survey);
+            match step(&mut survey, book, at) {
+                Ok(next) => at = next,
+                Err(why) => break 'lines Stopped { why, at },
             }
-            survey.line = Some(line);
-        }
-        match step(&mut survey, book, at) {
-            Ok(next) => at = next,
-            Err(why) => break Stopped { why, at },
+            if survey.line.is_none() || survey.ended {
+                break;
+            }
         }
         if survey.ended {
             if book.len() <= at {

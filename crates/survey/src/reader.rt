@@ -9,7 +9,7 @@ use codec::command::Command;
 use codec::reading::read;
 use codec::refusal::Refusal;
 
-// A book, and the place of the command that is read next. It is no `Iterator`: the `None` of one has no room for why
+// A book, and the place of the command that is read next, for whoever goes on reading; other routines take a place and answer one. It is no `Iterator`: the `None` of one has no room for why
 // reading stops, which is all that tells a book read to its end from one cut short.
 #[derive(Clone, Copy)]
 pub struct BookReader<'a> {

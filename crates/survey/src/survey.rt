@@ -1,10 +1,9 @@
 // The survey: what a field book has given so far. Each command makes its own checks, in document 01's order, and changes the
 // survey in its place; where it is refused, the survey is as it was.
-ghost use Rattle.std.specs.Prelude.{◌≡◌};
+ghost use Rattle.std.specs.Prelude.{◌≡◌, get_or, None};
 ghost use Rattle.biomass.specs.Report.{report, gives, when, after, leaves};
 ghost use Rattle.codec.specs.Refusal.{number};
-ghost use Rattle.line.specs.Line.{factor_at};
-ghost use Rattle.survey.specs.Survey.{no_row, fresh, species_at, rows_of, opened, declare, give_factor, open_line, give_small, end};
+ghost use Rattle.survey.specs.Survey.{no_row, fresh, rows_of, opened, declare, give_factor, open_line, give_small, end};
 ghost use Rattle.survey.specs.Apply.{apply_measured, apply_height, apply_close, apply};
 
 use biomass::units::{BiomassRange, Milligrams};
@@ -33,13 +32,20 @@ pub struct Survey {
     pub species: [Option<Species>; 16],
     // The factor at each whole cm, in hundredths.
     pub factors: [Option<u8>; 101],
-    // The rows of the closed lines, in closing order: so many as `closed` says.
+    // The rows of the closed lines, in closing order: so many as `closed` says. No `Vec`, since the library allocates nothing.
     pub rows: [Row; MOST_LINES],
     pub closed: usize,
     // The line that is open.
     pub line: Option<Line>,
     // Whether the book has ended.
     pub ended: bool,
+}
+
+// What stands at a place of a table, where it was given. Past the table's end nothing was.
+fn standing<T: Copy, const N: usize>(table: &[Option<T>; N], place: u8) -> Option<T>
+    ensures { result ≡ get_or table.now place None }
+{
+    table.get(place as usize).copied().flatten()
 }
 
 impl Survey {
@@ -63,20 +69,6 @@ impl Survey {
         ensures { result.now ≡ rows_of self.now }
     {
         self.rows.get(..self.closed).unwrap_or(&self.rows)
-    }
-
-    // What a species was declared with, where it was. No id above 15 has a place.
-    fn species_at(&self, id: u8) -> Option<Species>
-        ensures { result ≡ species_at self.now id }
-    {
-        self.species.get(id as usize).copied().flatten()
-    }
-
-    // The factor at a whole cm, where it was given.
-    fn factor_at(&self, cm: u8) -> Option<u8>
-        ensures { result ≡ factor_at self.now.factors cm }
-    {
-        self.factors.get(cm as usize).copied().flatten()
     }
 
     // Whether a line of this stratum and species was closed before.
@@ -105,7 +97,7 @@ impl Survey {
         ensures { after number result self.new ≡ leaves self.old (declare id species self.old) }
     {
         self.unless_ended()?;
-        declaring(id, species, self.species_at(id))?;
+        declaring(id, species, standing(&self.species, id))?;
         self.species[id as usize] = Some(species);
         Ok(())
     }
@@ -116,7 +108,7 @@ impl Survey {
         ensures { after number result self.new ≡ leaves self.old (give_factor cm factor self.old) }
     {
         self.unless_ended()?;
-        giving(cm, factor, self.factor_at(cm))?;
+        giving(cm, factor, standing(&self.factors, cm))?;
         self.factors[cm as usize] = Some(factor);
         Ok(())
     }
@@ -131,7 +123,7 @@ impl Survey {
             p,
             q,
             self.line.is_some(),
-            self.species_at(id),
+            standing(&self.species, id),
             self.opened(stratum, id),
             self.closed,
         )?;
@@ -139,7 +131,8 @@ impl Survey {
         Ok(())
     }
 
-    // 04: measured trees of the open line.
+    // 04: measured trees of the open line. Here, in 05 and in 08 the same three calls stand, but for the last: a routine that lends
+    // the open line, or takes what is done with it, would promise more words than it saves.
     #[tactic(auto, unfolding(crate::specs::Apply::apply_measured))]
     fn take_measured(&mut self, class: u8, count: u16) -> Result<(), Refusal>
         ensures { after number result self.new ≡ leaves self.old (apply_measured class count self.old) }
@@ -226,7 +219,8 @@ impl Survey {
         }
     }
 
-    // Any command. The survey comes back beside what became of the command; where that was refused, it is the one given.
+    // Any command. The survey comes back beside what became of the command; where that was refused, it is the one given. This one
+    // and the eight below are in the form that document 01 names: they take `self`, and hand back the survey beside the refusal.
     pub fn apply(mut self, command: Command) -> (Self, Result<(), Refusal>)
         ensures { after number result.1 result.0 ≡ leaves self (apply command self) }
     {

@@ -23,7 +23,7 @@ use Rattle.survey.specs.Apply.{on_line, apply_measured, apply_height, apply, rea
 use Rattle.line.specs.AnyLine.{add_trees, add_height}
 use Rattle.line.specs.declared.line.Line.{Line}
 use Rattle.survey.specs.Valid.{Valid}
-use Rattle.survey.specs.Playing.{Played, ended, stopped, taken_to, step_by, step, met, after_end, play_up_to_by, play_up_to, play_from, play_by, play, play_list_by, Notes}
+use Rattle.survey.specs.Playing.{Played, ended, stopped, taken_to, step_by, step, met, after_end, play_up_to_by, play_up_to, play_from, play_by, play, play_list_by, PlaysOn}
 use Rattle.codec.proofs.Law.Bytes.{Stands, stands_first, stands_second, stands_itself}
 use Rattle.codec.proofs.Law.RoundTrip.{read_at_end, read_encoded, read_moves}
 use Rattle.survey.proofs.Law.Reach.{read_declines, reach_refused, reach_on, AllFit, none, and_next}
@@ -142,66 +142,64 @@ pub plays_told : (book : List ℕ) (at : ℕ) (s : Survey) {c : Command} {next :
     → read book at ≡ gives (c, next) → record { left = t; refusal = number why } ≡ leaves s (apply c s) → play_from book at s ≡ stopped (number why) at
 plays_told book at s {c} {next} {t} why not_ended reads e = plays_declined book at s c next reads (number why) not_ended (is_refused c s t why e)
 
--- ---- the open line by itself (Notes)
+-- ---- the open line by itself (PlaysOn)
 
--- what is made of an open line is made of the survey
-line_applied : (note : Line → Report Line) (s : Survey) (l m : Line) (n : ℕ) → s.ended ≡ false → record { left = m; refusal = n } ≡ leaves l (note l)
-    → record { left = with_line s m; refusal = n } ≡ leaves (with_line s l) (on_line note (with_line s l))
-line_applied note s l m n not_ended e =
-    by_report (note l) e ∙ ap (λ (b : Bool). leaves (with_line s l) (when b 5 (note l then λ k. gives (with_line s k)))) (sym not_ended)
+-- what is noted of an open line is noted of the survey
+line_applied : (note : Line → Report Line) (s : Survey) (l m : Line) → s.ended ≡ false → s.line ≡ Some l → record { left = m; refusal = 0 } ≡ leaves l (note l)
+    → record { left = with_line s m; refusal = 0 } ≡ leaves s (on_line note s)
+line_applied note s l m not_ended is_open e =
+    by_report (note l) e
+    ∙ sym (ap₂ (λ (b : Bool) (o : Option Line). leaves s (when b 5 (given o 10 then λ l. note l then λ k. gives (with_line s k)))) not_ended is_open)
   where
-    by_report : (r : Report Line) → record { left = m; refusal = n } ≡ leaves l r
-        → record { left = with_line s m; refusal = n } ≡ leaves (with_line s l) (r then λ k. gives (with_line s k))
-    by_report (refused k) e = ap (λ (a : After Line). record { left = with_line s a.left; refusal = a.refusal }) e
+    by_report : (r : Report Line) → record { left = m; refusal = 0 } ≡ leaves l r
+        → record { left = with_line s m; refusal = 0 } ≡ leaves s (r then λ k. gives (with_line s k))
     by_report (gives k) e = ap (λ (a : After Line). record { left = with_line s a.left; refusal = a.refusal }) e
+    by_report (refused n) e =
+        ap (λ (a : After Line). record { left = with_line s a.left; refusal = a.refusal }) e
+        ∙ ap (λ (o : Option Line). record { left = with_state s o s.ended; refusal = n }) (sym is_open)
 
--- a survey is the one with its open line
-with_its_line : (s : Survey) (l : Line) → s.line ≡ Some l → s ≡ with_line s l
-with_its_line s l is_open = ap (λ (o : Option Line). with_state s o s.ended) is_open
+-- nothing is noted yet
+pub plays_on_itself : (book : List ℕ) (at : ℕ) (l : Line) → PlaysOn book at l at l
+plays_on_itself book at l s not_ended is_open = ap (λ (o : Option Line). play_from book at (with_state s o s.ended)) is_open
 
-module _ (book : List ℕ) (at : ℕ) (l m : Line) (c : Command) (next : ℕ) (note : Line → Report Line) (same : (s : Survey) → apply c s ≡ on_line note s)
-    (reads : read book at ≡ gives (c, next)) where
-  left_so : (s : Survey) (n : ℕ) → s.ended ≡ false → record { left = m; refusal = n } ≡ leaves l (note l)
-      → record { left = with_line s m; refusal = n } ≡ leaves (with_line s l) (apply c (with_line s l))
-  left_so s n not_ended e = line_applied note s l m n not_ended e ∙ ap (leaves (with_line s l)) (sym (same (with_line s l)))
+-- one command more is noted
+pub record NotedOn (book : List ℕ) (from at : ℕ) (first : Line) (next : ℕ) (m : Line) : Type 0 where
+  pub moves : at < next
+  pub inside : next ≤ length book
+  pub plays : PlaysOn book from first next m
 
-  noted : record { left = m; refusal = 0 } ≡ leaves l (note l) → Notes book at l (Ok (Some next)) m
-  noted e =
-      let moves = read_moves book at c next reads in (
-        moves.0,
-        moves.1,
-        λ s not_ended is_open.
-            ap (play_from book at) (with_its_line s l is_open) ∙ (plays_applied book at (with_line s l) not_ended reads (left_so s 0 not_ended e)).plays,
-      )
+module _ (book : List ℕ) (from at : ℕ) (first l m : Line) (next : ℕ) (before : PlaysOn book from first at l) where
+  noted_on : (c : Command) (note : Line → Report Line) → ((s : Survey) → apply c s ≡ on_line note s) → read book at ≡ gives (c, next)
+      → record { left = m; refusal = 0 } ≡ leaves l (note l) → NotedOn book from at first next m
+  noted_on c note same reads e =
+      let on : (s : Survey) → s.ended ≡ false → On book at (with_line s l) next (with_line s m) = λ s not_ended.
+      plays_applied book at (with_line s l) not_ended reads
+      (line_applied note (with_line s l) l m not_ended refl e ∙ ap (leaves (with_line s l)) (sym (same (with_line s l)))) in
+      let moves = read_moves book at c next reads in
+      record { moves = moves.0; inside = moves.1; plays = λ s not_ended is_open. before s not_ended is_open ∙ (on s not_ended).plays }
 
-  told : (why : Refusal) → record { left = m; refusal = number why } ≡ leaves l (note l) → Notes book at l (Err why) m
-  told why e = λ s not_ended is_open.
-      ap (play_from book at) (with_its_line s l is_open) ∙ plays_told book at (with_line s l) why not_ended reads (left_so s (number why) not_ended e)
-
--- measured trees and a height tree, noted or refused, and where no command is read
-module _ (book : List ℕ) (at : ℕ) (l m : Line) (next : ℕ) where
-  pub notes_measured : (class count : ℕ) → read book at ≡ gives (Command.Measured class count, next)
-      → record { left = m; refusal = 0 } ≡ leaves l (add_trees class count l) → Notes book at l (Ok (Some next)) m
+  pub measured_on : {class count : ℕ} → read book at ≡ gives (Command.Measured class count, next) → record { left = m; refusal = 0 } ≡ leaves l (add_trees class count l)
+      → NotedOn book from at first next m
   unfolding apply_measured
-  notes_measured class count reads e = noted book at l m (Command.Measured class count) next (add_trees class count) (λ s. refl) reads e
+  measured_on {class} {count} reads e = noted_on (Command.Measured class count) (add_trees class count) (λ s. refl) reads e
 
-  pub tells_measured : (class count : ℕ) (why : Refusal) → read book at ≡ gives (Command.Measured class count, next)
-      → record { left = m; refusal = number why } ≡ leaves l (add_trees class count l) → Notes book at l (Err why) m
-  unfolding apply_measured
-  tells_measured class count why reads e = told book at l m (Command.Measured class count) next (add_trees class count) (λ s. refl) reads why e
-
-  pub notes_height : (cm tenths : ℕ) → read book at ≡ gives (Command.Height cm tenths, next)
-      → record { left = m; refusal = 0 } ≡ leaves l (add_height cm tenths l) → Notes book at l (Ok (Some next)) m
+  pub height_on : {cm tenths : ℕ} → read book at ≡ gives (Command.Height cm tenths, next) → record { left = m; refusal = 0 } ≡ leaves l (add_height cm tenths l)
+      → NotedOn book from at first next m
   unfolding apply_height
-  notes_height cm tenths reads e = noted book at l m (Command.Height cm tenths) next (add_height cm tenths) (λ s. refl) reads e
+  height_on {cm} {tenths} reads e = noted_on (Command.Height cm tenths) (add_height cm tenths) (λ s. refl) reads e
 
-  pub tells_height : (cm tenths : ℕ) (why : Refusal) → read book at ≡ gives (Command.Height cm tenths, next)
-      → record { left = m; refusal = number why } ≡ leaves l (add_height cm tenths l) → Notes book at l (Err why) m
-  unfolding apply_height
-  tells_height cm tenths why reads e = told book at l m (Command.Height cm tenths) next (add_height cm tenths) (λ s. refl) reads why e
+-- what the code answers of a line that it changes: it is noted, or the line is as it was
+module _ {answered answer : Result Unit Refusal} {m k : Line} {a : After Line} (promise : after number answered k ≡ a) (is : answer ≡ answered) (left : m ≡ k) where
+  pub noted_left : {u : Unit} → answer ≡ Ok u → record { left = m; refusal = 0 } ≡ a
+  noted_left e = ap (λ (l : Line). record { left = l; refusal = 0 }) left ∙ ap (λ (r : Result Unit Refusal). after number r k) (sym e ∙ is) ∙ promise
 
-pub tells_unread : (book : List ℕ) (at : ℕ) (l : Line) (why : Refusal) → refused (number why) ≡ read book at → Notes book at l (Err why) l
-tells_unread book at l why e = λ s not_ended is_open. plays_unread book at s (number why) not_ended (sym e)
+  pub refused_left : {why : Refusal} → answer ≡ Err why → record { left = m; refusal = number why } ≡ a
+  refused_left {why} e =
+      ap (λ (l : Line). record { left = l; refusal = number why }) left ∙ ap (λ (r : Result Unit Refusal). after number r k) (sym e ∙ is) ∙ promise
+
+pub line_kept : (l m : Line) (r : Report Line) (why : Refusal) → record { left = m; refusal = number why } ≡ leaves l r → m ≡ l
+line_kept l m (refused n) why e = ap (λ (a : After Line). a.left) e
+line_kept l m (gives k) why e = let zero : number why ≡ 0 = ap (λ (a : After Line). a.refusal) e in absurd (omega (arith, number_some why))
 
 -- ---- what a whole book comes to
 
