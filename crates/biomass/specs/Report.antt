@@ -39,17 +39,17 @@ abbrev pub given : {A : Type 0} → Option A → ℕ → Report A
 given None n = refused n
 given (Some a) n = gives a
 
--- What becomes of a thing that a routine is lent to change: what is left of it, and the number of the refusal, 0 where there is none
+-- What becomes of a thing that a routine is lent to change: what is left of it, and the number of the refusal, if there is one
 pub record After (A : Type 0) : Type 0 where
   pub left : A
-  pub refusal : ℕ
+  pub refusal : Option ℕ
 
 -- "The survey returned is the one given", where the change is refused; else the changed one is left
 abbrev pub leaves : {A : Type 0} → A → Report A → After A
-leaves a (refused n) = record { left = a; refusal = n }
-leaves a (gives b) = record { left = b; refusal = 0 }
+leaves a (refused n) = record { left = a; refusal = Some n }
+leaves a (gives b) = record { left = b; refusal = None }
 
 -- what the code answers, with what is then left
 abbrev pub after : {A E : Type 0} → (E → ℕ) → Result Unit E → A → After A
-after number (Ok done) a = record { left = a; refusal = 0 }
-after number (Err why) a = record { left = a; refusal = number why }
+after number (Ok done) a = record { left = a; refusal = None }
+after number (Err why) a = record { left = a; refusal = Some (number why) }

@@ -8,7 +8,7 @@ pub mod crown;
 mod ends;
 pub mod limits;
 pub mod mean;
-mod operand;
+pub mod operand;
 mod part;
 pub mod project;
 pub mod report;

@@ -10,7 +10,7 @@ use super::whole::within;
 use powers::diameter::{GREATEST_D, LEAST_D};
 
 // The check of an operand: from least to most, ends included.
-pub(crate) fn check(least: u64, operand: u64, most: u64) -> Result<(), Refusal>
+pub fn check(least: u64, operand: u64, most: u64) -> Result<(), Refusal>
     ensures { result ≡ cond (inside least operand most) (Ok tt) (Err Operand) }
 {
     if within(least, operand, most) {

@@ -1,5 +1,5 @@
 // A part of a tree that is worked by groups, the crown and the root: on a curve up to some diameter, and on a straight line above it.
-ghost use Rattle.std.specs.Prelude.{◌≡◌, ◌≤◌, ◌<◌, ◌^◌, ℕ, ℤ, List, [], get_or, pos};
+ghost use Rattle.std.specs.Prelude.{◌≡◌, ◌≤◌, ◌<◌, ◌^◌, ℕ, ℤ, List, [], get_or};
 ghost use Rattle.biomass.specs.Report.{report, refusal_number};
 ghost use Rattle.biomass.specs.Ends.{range, part, part_ends};
 ghost use Rattle.biomass.specs.Bounds.{SoundRow};

@@ -19,7 +19,8 @@ type Factor = Within<100, 200>;
 
 type Gravity = Within<1, 100>;
 
-// Equation 5: the merchantable volume between two ends, in document 01's unit for VL and VH. Below 0.118288 m² of basal area the slope counts against the volume, so there the greater slope gives the low.
+// Equation 5: the merchantable volume between two ends, in document 01's unit for VL and VH. Below 0.118288 m² of basal area the
+// slope counts against the volume, so there the greater slope gives the low.
 fn volume(tariff: Tariff, d: Diameter) -> Range<u64>
     ensures { (VL tariff.number d.number ≡ pos result.low) × (VH tariff.number d.number ≡ pos result.high) × (result.high ≤ greatest_volume) }
 {

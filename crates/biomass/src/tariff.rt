@@ -41,7 +41,8 @@ fn tariff_sum(constants: Constants, cm: Cm, tenths: Tenths) -> i64
         + 50_000_000
 }
 
-// A hundred-millionth, with the remainder dropped toward the lesser number, below 0 too. A routine of its own, since inside `single_tariff` its proof does not close.
+// A hundred-millionth, with the remainder dropped toward the lesser number, below 0 too. A routine of its own, since inside
+// `single_tariff` its proof does not close.
 fn hundred_millionth(sum: i64) -> i64
     ensures { result ≡ sum div 100000000 }
 {

@@ -30,10 +30,11 @@ kind (Commands.Small carbon count) = Small
 abbrev pub kinds : List Kind
 kinds = Species ∷ Factor ∷ Open ∷ Measured ∷ Height ∷ Close ∷ End ∷ Small ∷ []
 
--- the kind that has a byte; "2 unknown byte", where none has it
+-- "2 unknown byte", where no kind is found
 abbrev pub known : Option Kind → Report Kind
 known (Some k) = gives k
 known None = refused 2
 
+-- the kind that has a byte
 abbrev pub kind_of : ℕ → Report Kind
 kind_of byte = known (find (λ k. nat_eq byte (kind_byte k)) kinds)

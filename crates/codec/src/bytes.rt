@@ -6,7 +6,7 @@ ghost use Rattle.codec.specs.Bytes.{byte, number_at, bytes, store, after_store, 
 
 use super::refusal::Refusal;
 
-// The byte at a place; 0 past the end.
+// The byte at a place; 0 past the end. No `Option`, here and below: a public routine that cannot fail goes on so.
 pub fn byte(s: &[u8], at: usize) -> u8
     ensures { result ≡ byte s.now at }
 {
@@ -17,10 +17,7 @@ pub fn byte(s: &[u8], at: usize) -> u8
 fn rest(s: &[u8], at: usize) -> &[u8]
     ensures { (k : ℕ) → byte result.now k ≡ byte s.now (at + k) }
 {
-    if s.len() < at {
-        return &[];
-    }
-    &s[at..]
+    s.get(at..).unwrap_or(&[])
 }
 
 // The N bytes from a place on. Here and below, a byte past the end is 0.
@@ -79,7 +76,7 @@ pub fn bits_of(x: i32) -> u32
 }
 
 // Stores the last `width` bytes of a number, of any width, from a place on, and answers the place after them. Where there is no room for all of
-// them, nothing is written, and the answer is the place given.
+// them, nothing is written, and the answer is the place given. It stays beside `put`, of which the width is part of the type.
 pub fn store(buffer: &mut [u8], at: usize, width: usize, x: u64) -> usize
     ensures bytes { buffer.new ≡ store buffer.old at (bytes width x) }
     ensures place { result ≡ after_store buffer.old at (bytes width x) }

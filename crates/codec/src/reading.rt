@@ -17,10 +17,8 @@ use biomass::tariff::Constants;
 fn operands<const N: usize>(book: &[u8], from: usize) -> Result<&[u8; N], Refusal>
     ensures { MatchResult result (λ o. (from + N ≤ length book.now) × (o.now ≡ take N (drop from book.now))) (λ why. (why ≡ CutShort) × (length book.now < from + N)) }
 {
-    match book.get(from..) {
-        Some(rest) => rest.first_chunk().ok_or(Refusal::CutShort),
-        None => Err(Refusal::CutShort),
-    }
+    let rest = book.get(from..).ok_or(Refusal::CutShort)?;
+    rest.first_chunk().ok_or(Refusal::CutShort)
 }
 
 // An operand of one byte, and one of two after it.
@@ -116,7 +114,7 @@ pub fn read(book: &[u8], at: usize) -> Result<(Command, usize), Refusal>
 }
 
 // What `read` answers, with the commands of an open line looked for first: nearly all commands of a long book are of these two,
-// and without it such a book takes twice as long.
+// and without it such a book takes twice as long. By the byte, as `Kind::try_from`: asked for its kind first, the byte is matched twice.
 #[tactic(auto, unfolding(crate::specs::Reading::read))]
 pub fn read_of_line(book: &[u8], at: usize) -> Result<(Command, usize), Refusal>
     ensures { report number result ≡ read book.now at }

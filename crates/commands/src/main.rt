@@ -71,7 +71,7 @@ impl Display for Words {
     }
 }
 
-// Each command's line. `read_through` counted so many, so none is passed over.
+// Each command's line. `read_through` counted so many, so none is passed over, and the count shows that the loop ends.
 fn print_commands<W: Write + Drop>(
     output: &mut Output<W>,
     book: &[u8],

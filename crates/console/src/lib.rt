@@ -91,10 +91,9 @@ impl<'a, R: Print + AllocGlobal> Output<Printer<'a, R>> {
     pub fn new(rt: &'a R) -> Self
         ensures { result.good ≡ true }
     {
-        let writer = match BufWriter::new(rt.alloc(), io::writer(rt)) {
-            Ok(writer) => writer,
-            Err(_) => BufWriter::with_capacity(rt.alloc(), 0, io::writer(rt)).unwrap(),
-        };
+        let writer = BufWriter::new(rt.alloc(), io::writer(rt)).unwrap_or_else(|_| {
+            BufWriter::with_capacity(rt.alloc(), 0, io::writer(rt)).unwrap()
+        });
         Output::over(writer)
     }
 }
@@ -121,7 +120,8 @@ impl<W: Write + Drop> Output<W> {
         printed
     }
 
-    // Writes what waits in the buffer, and answers the writer and whether all that was printed is out.
+    // Writes what waits in the buffer, and answers the writer and whether all that was printed is out. No `Result`, since the
+    // writer comes back either way.
     pub fn finish(mut self) -> (W, bool)
         ensures stays { self.good ≡ false → result ≡ (writer_of self, false) }
         ensures written { result.1 ≡ true → Keeps (printed W.contents self) (W.contents result.0) }
@@ -136,7 +136,8 @@ impl<W: Write + Drop> Output<W> {
     }
 }
 
-// What a program does: reads a book and lends it to `print`, or says that it is too long, and finishes the output.
+// What a program does: reads a book and lends it to `print`, or says that it is too long, and finishes the output. Alone of all
+// public routines it has a `requires`, which the language asks of whoever calls a closure: that this one may be called.
 pub fn print_of_book<I: Read, W: Write + Drop, F>(
     input: &mut I,
     mut output: Output<W>,

@@ -11,6 +11,7 @@ ghost use Rattle.fieldbook.specs.Layout.{refusal, command, write_numbers, next_p
 
 use super::layout::{Laid, lay};
 use biomass::tariff::Constants;
+use codec::bytes::signed_of;
 use codec::command::{Command, Kind, Species};
 use codec::reading::{place_after, read};
 use codec::refusal::Refusal;
@@ -31,7 +32,7 @@ fn wide(x: i32) -> u64
 fn narrow(x: u64) -> i32
     ensures { result ≡ signed (x % 4294967296) }
 {
-    ((x % 4_294_967_296) as u32).cast_signed()
+    signed_of((x % 4_294_967_296) as u32)
 }
 
 // The kind of command whose byte this is.

@@ -1,4 +1,4 @@
-// The figures of the crate `biomass`.
+// The figures of the crate `biomass`, a function to each, since C calls each by its own name.
 ghost use Rattle.std.specs.Prelude.{◌≡◌, ℕ, [], ◌∷◌};
 ghost use Rattle.biomass.specs.Report.{report, refusal_number};
 ghost use Rattle.biomass.specs.Ends.{between};

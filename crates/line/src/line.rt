@@ -12,12 +12,12 @@ ghost use Rattle.line.specs.AnyLine.{add_trees, add_height, scaled, row_gaining,
 use super::row::Row;
 use biomass::limits::{GREATEST_CARBON, MOST_ESTIMATED, MOST_HEIGHTS, MOST_MEASURED, MOST_SMALL};
 use biomass::mean::mean;
+use biomass::operand::check;
 use biomass::small_trees::small_trees;
 use biomass::tariff::{line_tariff, single_tariff};
 use biomass::tree::{AverageTree, row_biomass};
 use biomass::trees::trees;
 use biomass::units::{BiomassRange, Milligrams};
-use biomass::whole::within;
 use codec::command::Species;
 use codec::refusal::Refusal;
 use powers::diameter::UNITS_TO_CM;
@@ -29,22 +29,22 @@ const MOST_SQUARES: u64 = 10_000 * MOST_MEASURED;
 const MOST_TARIFFS: u64 = 50 * MOST_HEIGHTS;
 
 // Measured trees: how many, and their classes in cm, squared and added.
-#[derive(Clone, Copy)]
+#[derive(Clone, Copy, Default)]
 pub struct Tally {
     pub n: u64,
     pub squares: u64,
 }
 
 // Height trees: how many, and their tariffs added.
-#[derive(Clone, Copy)]
+#[derive(Clone, Copy, Default)]
 pub struct Heights {
     pub number: u64,
     pub tariffs: u64,
 }
 
-// Small trees: the carbon of one in mg, and how many; a count of 0: none are given. No `Option`, since step 3 and the row take a
-// count of 0 as any other.
-#[derive(Clone, Copy)]
+// Small trees: the carbon of one in mg, and how many; a count of 0: none are given. No `Option`: step 3 makes 0 of a count of 0, and
+// may of another, so that the row asks for the number 0 in any case.
+#[derive(Clone, Copy, Default)]
 pub struct SmallTrees {
     pub carbon: u64,
     pub count: u64,
@@ -96,24 +96,15 @@ impl Line {
     pub fn new(stratum: u8, id: u8, species: Species, p: u32, q: u32) -> Self
         ensures { result ≡ new_line stratum id species p q }
     {
-        let tally = Tally { n: 0, squares: 0 };
-        let heights = Heights {
-            number: 0,
-            tariffs: 0,
-        };
-        let small = SmallTrees {
-            carbon: 0,
-            count: 0,
-        };
         Line {
             stratum,
             id,
             species,
             p,
             q,
-            tally,
-            heights,
-            small,
+            tally: Tally::default(),
+            heights: Heights::default(),
+            small: SmallTrees::default(),
         }
     }
 
@@ -124,9 +115,7 @@ impl Line {
     {
         let cm = class as u64;
         let trees = count as u64;
-        if !within(7, cm, 100) {
-            return Err(Refusal::Operand);
-        }
+        check(7, cm, 100)?;
         if trees < 1 {
             return Err(Refusal::Operand);
         }
@@ -169,12 +158,8 @@ impl Line {
             carbon: carbon as u64,
             count: count as u64,
         };
-        if !within(1, small.carbon, GREATEST_CARBON) {
-            return Err(Refusal::Operand);
-        }
-        if !within(1, small.count, MOST_SMALL) {
-            return Err(Refusal::Operand);
-        }
+        check(1, small.carbon, GREATEST_CARBON)?;
+        check(1, small.count, MOST_SMALL)?;
         if 0 < self.small.count {
             return Err(Refusal::AlreadyGiven);
         }
@@ -220,6 +205,7 @@ impl Line {
             return Ok(self.row_with(tariff, d, trees, measured));
         }
         let gained = small_trees(small, self.small.carbon)?;
+        // End by end, as in `biomass::tree::tree`, which adds three: a sum of ranges would have to ask for bounds of its own.
         let both = BiomassRange {
             low: Milligrams(measured.low.0 + gained.low.0),
             high: Milligrams(measured.high.0 + gained.high.0),

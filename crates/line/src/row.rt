@@ -38,7 +38,7 @@ fn store_figures(sheet: &mut [u8], at: usize, row: Row)
     store(sheet, high, 8, row.biomass.high.0);
 }
 
-// Stores a row from a place on. Where there is no room for it, nothing is written.
+// Stores a row from a place on. Where there is no room for it, nothing is written: looked at here, so that none of its figures is.
 pub fn store_row(sheet: &mut [u8], at: usize, row: Row)
     ensures { sheet.new ≡ store sheet.old at (row_bytes row) }
 {
@@ -71,7 +71,7 @@ fn row_from(sheet: &[u8], at: usize) -> Row
     }
 }
 
-// The row in the bytes from a place on. A byte past the end is 0.
+// The row in the bytes from a place on. A byte past the end is 0, as in all routines that read bytes and cannot fail.
 pub fn row_at(sheet: &[u8], at: usize) -> Row
     ensures { result ≡ row_from sheet.now at }
 {

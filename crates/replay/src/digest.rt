@@ -6,7 +6,7 @@ use line::line::Line;
 use line::row::Row;
 use survey::survey::Survey;
 
-// What stands in a digest for a species that is not declared.
+// What stands in a digest for a species that is not declared: the outside tests make theirs over sixteen species in any case.
 pub const UNDECLARED: Species = Species {
     crown: 0,
     root: 0,

@@ -6,6 +6,7 @@ ghost use Rattle.codec.specs.Refusal.{number};
 ghost use Rattle.rules.specs.Checks.{species_in_range, declaring, giving, areas_in_range, opening, ending};
 
 use biomass::limits::GREATEST_AREA;
+use biomass::operand::check;
 use biomass::whole::within;
 use codec::command::Species;
 use codec::refusal::Refusal;
@@ -41,17 +42,13 @@ pub fn declaring(id: u8, species: Species, there: Option<Species>) -> Result<(),
     Ok(())
 }
 
-// 02: a factor given, by what stands at its whole cm.
+// 02: a factor given, by what stands at its whole cm. It looks like `declaring`, but its checks are other ones.
 pub fn giving(cm: u8, factor: u8, there: Option<u8>) -> Result<(), Refusal>
     ensures answer { report number result ≡ giving cm factor (is_some there) (gives tt) }
     ensures place { IfOk result (λ _. cm ≤ 100) }
 {
-    if !within(7, cm as u64, 100) {
-        return Err(Refusal::Operand);
-    }
-    if !within(100, factor as u64, 200) {
-        return Err(Refusal::Operand);
-    }
+    check(7, cm as u64, 100)?;
+    check(100, factor as u64, 200)?;
     if there.is_some() {
         return Err(Refusal::AlreadyGiven);
     }

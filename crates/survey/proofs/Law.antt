@@ -9,6 +9,7 @@
 --     Sheet: row_reads_back                   a row that is stored is read back as it was
 --     Effect: effect                          what a command that is taken changes is a species, a factor, the line or the rows
 --     Valid: fresh_valid, apply_valid         a fresh survey is valid, and every command keeps a survey so; `reached_valid`: so every one that commands reach is
+--     Checks: declared_true, opened_in_table    no id above 15 is declared, and no command that names one is taken
 --     AsWritten: as_written_lem                   of a valid survey, applying is the papers' text, with no refusal but those that it names
 --     AsWritten: row_of_none                  the row of a line with n = 0 and no small trees has no figure above 0
 --     Named: only_named, never_other          the refusals of each command are those that the papers name; of any survey, besides only 6 and 11
@@ -17,10 +18,11 @@
 --     Named: line_row_declines                and those of a line's row by themselves
 --     Limit: limit_told, close_never          11 is told only at the limit, of any survey; closing tells it of no valid one
 --     Named: ended_refuses                    a book that has ended takes no command
---     Named: is_taken, is_refused             what the code answers of a command tells which it is
+--     Named: is_taken, is_refused, is_kept    what is left, with the refusal if there is one, tells what was reported: a refused change leaves all as it was
 --     Stable: species_stay, factors_stay, rows_stay     what is given once never changes
 --     Playing: plays_refused, plays_on, plays_end, plays_past_end     how playing goes on from a place; `enough_commands`: how many commands are allowed makes no difference
 --     Playing: plays_taken, plays_declined, plays_unread      and from a command that is taken, refused or not read; `plays_applied`, `plays_told`: by what the code answers
+--     Playing: measured_step, height_step     a tree is taken of a survey where it is taken of its open line, and refused where it is refused
 --     Playing: measured_on, height_on, line_kept     a tree that is noted of an open line is noted of every survey with that line; a refused one leaves the line as it was
 --     Playing: play_valid, play_ended         a book is played to a valid survey, which has ended
 --     Playing: kept_to_the_end                what every command keeps is kept to the end of the book

@@ -1,5 +1,5 @@
--- The lines of a book are its closings. What a line comes to is what is noted of it, and the factors given, when it closes: the survey just before the
--- command 06 that closes it, whose open line it is. The rows of an accepted book are those of its closings (Law.Closings: rows_are).
+-- The lines of a book are its closings. What a line comes to is what is noted of it, and the factors given, when it closes: both are those of the survey
+-- just before the command 06 that closes it. The rows of an accepted book are those of its closings (Law.Closings: rows_are).
 use Rattle.std.specs.Prelude.{ℕ, List, [], ◌∷◌, ◌++◌, Option, option_map, option_to_list}
 use Rattle.biomass.specs.Report.{Report, refused, gives, leaves}
 use Rattle.line.specs.Line.{Estimate}

@@ -1,6 +1,6 @@
 -- "Totalling a book": its commands are applied to a fresh survey, one after the other, to the end of the book or to "the first refusal met, with the
 -- place of its command".
-use Rattle.std.specs.Prelude.{ℕ, zero, suc, ◌+◌, ◌≤◌, ◌<◌, ◌≡◌, false, Option, Some, None, cond, List, [], ◌∷◌, length, ltb, Result, Ok, Err}
+use Rattle.std.specs.Prelude.{ℕ, zero, suc, ◌+◌, ◌≤◌, ◌<◌, ◌≡◌, false, Some, cond, List, [], ◌∷◌, length, ltb, Result, Ok, Err}
 use Rattle.biomass.specs.Report.{Report, refused, gives, ◌then◌}
 use Rattle.codec.specs.Refusal.{number}
 use Rattle.codec.specs.Command.{encode}

@@ -68,7 +68,7 @@ with_end s = with_state s s.line true
 
 -- ---- the commands. "5 the book has ended, first of all." What else a declaration, an opening and the end decline is Checks
 
--- whether a species is declared: no id above 15 has a place
+-- whether a species is declared. "An id above 15 included": none is, in a table of 16 places (Law.Checks: declared_true, opened_in_table)
 abbrev pub declared : ℕ → Survey → Bool
 declared id s = is_some (species_at s id)
 
@@ -125,7 +125,7 @@ give_small carbon count s =
     add_small carbon count l then λ m.
     gives (with_line s m))
 
--- "the factor at d div 10 cm" of a line; 0 where none was given, and then the line does not close
+-- "the factor at d div 10 cm" of a line; 0 where none was given, and then no line with measured trees closes
 abbrev pub f_of : List (Option ℕ) → Line → ℕ
 f_of factors l = unwrap_or (factor_for factors (d_of l)) 0
 

@@ -30,7 +30,7 @@ fn note_trees(book: &[u8], from: usize, line: &mut Line) -> usize
             Command::Height { cm, tenths } => line.add_height(cm, tenths),
             _ => return at,
         };
-        if let Err(_) = noted {
+        if noted.is_err() {
             return at;
         }
         at = next;

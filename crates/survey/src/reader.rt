@@ -9,15 +9,16 @@ use codec::command::Command;
 use codec::reading::read;
 use codec::refusal::Refusal;
 
-// A book, and the place of the command that is read next, for whoever goes on reading; other routines take a place and answer one. It is no `Iterator`: the `None` of one has no room for why
-// reading stops, which is all that tells a book read to its end from one cut short.
+// A book, and the place of the command that is read next, for whoever goes on reading; other routines take a place and answer
+// one. It is no `Iterator`: the `None` of one has no room for why reading stops, which is all that tells a book read to its end
+// from one cut short.
 #[derive(Clone, Copy)]
 pub struct BookReader<'a> {
     pub book: &'a [u8],
     pub at: usize,
 }
 
-// What a reader answers at a place, and the place to go on from, which there is after a refusal too.
+// What a reader answers at a place, and the place to go on from, which there is after a refusal too: so it stands beside the answer.
 #[derive(Clone, Copy)]
 pub struct Advance {
     pub reading: Result<(Command, usize), Refusal>,

@@ -3,7 +3,7 @@
 ghost use Rattle.std.specs.Prelude.{◌≡◌, get_or, None};
 ghost use Rattle.biomass.specs.Report.{report, gives, when, after, leaves};
 ghost use Rattle.codec.specs.Refusal.{number};
-ghost use Rattle.survey.specs.Survey.{no_row, fresh, rows_of, opened, declare, give_factor, open_line, give_small, end};
+ghost use Rattle.survey.specs.Survey.{fresh, rows_of, opened, declare, give_factor, open_line, give_small, end};
 ghost use Rattle.survey.specs.Apply.{apply_measured, apply_height, apply_close, apply};
 
 use biomass::units::{BiomassRange, Milligrams};
@@ -81,7 +81,7 @@ impl Survey {
             .any(|row| row.stratum == stratum && row.species == id)
     }
 
-    // 5: the book has ended, first of all.
+    // 5: the book has ended, first of all. Asked by each command, and not once by `take`: so each answers for any survey.
     fn unless_ended(&self) -> Result<(), Refusal>
         ensures { report number result ≡ when self.now.ended 5 (gives tt) }
     {

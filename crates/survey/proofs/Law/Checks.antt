@@ -9,7 +9,7 @@ use Rattle.biomass.specs.Whole.{inside}
 use Rattle.biomass.specs.Report.{Report, refused, gives, unless, ◌then◌, when, given}
 use Rattle.biomass.proofs.Law.Report.{inside_true, both_true}
 use Rattle.biomass.proofs.Law.Gives.{never, figure_is}
-use Rattle.survey.specs.Survey.{species_at}
+use Rattle.survey.specs.Survey.{species_at, declared, declare, open_line}
 use Rattle.rules.specs.Checks.{species_in_range, is_line}
 use Rattle.survey.specs.Valid.{ValidSpecies}
 use Rattle.codec.specs.declared.command.Species.{Species}
@@ -66,19 +66,41 @@ none_is_some e = absurd (false≢true (ap is_some e))
 pub some_is : {A : Type 0} {a b : A} → Some a ≡ Some b → a ≡ b
 some_is e = cc
 
+pub something_there : {A : Type 0} (o : Option A) → is_some o ≡ true → (a : A) × (o ≡ Some a)
+something_there None e = absurd (false≢true e)
+something_there (Some a) e = (a, refl)
+
 pub nothing_there : {A : Type 0} (o : Option A) → is_some o ≡ false → o ≡ None
 nothing_there None e = refl
 nothing_there (Some a) e = absurd (false≢true (sym e))
 
 -- ---- tests of two parts
 
--- "an id above 15 included": it has no place in the table
+-- "8 species undeclared, an id above 15 included": such an id has no place in the table
 pub in_table : (s : Survey) (id : ℕ) (x : Species) → length s.species ≡ 16 → species_at s id ≡ Some x → id ≤ 15
 in_table s id x long is =
     elim (dec_le (length s.species) id) [
       | yes past ↦ none_is_some (sym (get_or_past s.species id None past) ∙ is)
       | no inside ↦ omega (arith, lt_of_not-le inside)
     ]
+
+-- a species is declared where its id is up to 15 and something stands there; and in a table of 16 places only there
+pub record Declared (id : ℕ) (s : Survey) : Type 0 where
+  pub in_table : id ≤ 15
+  pub species : Species
+  pub is : species_at s id ≡ Some species
+
+pub declared_true : (id : ℕ) (s : Survey) → length s.species ≡ 16 → declared id s ≡ true → Declared id s
+declared_true id s long e =
+    let there = something_there (species_at s id) e in
+    record { in_table = in_table s id there.0 long there.1; species = there.0; is = there.1 }
+
+pub true_declared : (id : ℕ) (s : Survey) → Declared id s → declared id s ≡ true
+true_declared id s d = ap is_some d.is
+
+-- whether it is declared hangs on what stands at its id
+pub declared_as_lem : (id : ℕ) (s t : Survey) → species_at t id ≡ species_at s id → declared id t ≡ declared id s
+declared_as_lem id s t e = ap is_some e
 
 pub species_in_range_lem : (id : ℕ) (s : Species) → species_in_range id s ≡ true → Inside 0 id 15 × ValidSpecies s
 species_in_range_lem id s e =
@@ -92,6 +114,18 @@ species_in_range_lem id s e =
         gravity = inside_true 1 s.gravity 100 r.1;
       },
     )
+
+-- no command that names an id above 15 is taken
+id_in_range : (id : ℕ) (x : Species) → species_in_range id x ≡ true → id ≤ 15
+id_in_range id x e = (species_in_range_lem id x e).0.most
+
+pub declared_in_table : (id : ℕ) (x : Species) (s : Survey) → Gives (λ _. id ≤ 15) (declare id x s)
+unfolding declare
+declared_in_table id x s = search (passed, id_in_range) depth 12
+
+pub opened_in_table : (stratum id p q : ℕ) (s : Survey) → length s.species ≡ 16 → Gives (λ _. id ≤ 15) (open_line stratum id p q s)
+unfolding open_line
+opened_in_table stratum id p q s long = search (passed, in_table) depth 12
 
 eqb_symmetric : (a b : ℕ) → eqb a b ≡ eqb b a
 eqb_symmetric a b =

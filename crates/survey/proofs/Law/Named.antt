@@ -6,8 +6,6 @@ use Rattle.std.proofs.Common.{arith, ◌∙◌, sym, ap, subst, leb-true, eqb-tr
 use Rattle.std.proofs.lemmas.Bool.{false≢true}
 use Rattle.biomass.specs.Report.{Report, refused, gives, given, ◌then◌, After, leaves}
 use Rattle.biomass.proofs.Law.Gives.{number_is}
-use Rattle.codec.specs.Refusal.{number}
-use Rattle.codec.specs.declared.refusal.Refusal.{Refusal}
 use Rattle.biomass.proofs.Law.Report.{both_true}
 use Rattle.biomass.proofs.Law.Declines.{Declines, six_declines, six_or_thirteen_declines, single_tariff_declines, line_tariff_declines, mean_declines, trees_declines, row_declines, small_declines, declined}
 use Rattle.survey.specs.Survey.{declare, give_factor, open_line, measure, give_height, give_small, close, end}
@@ -17,6 +15,7 @@ use Rattle.line.specs.Line.{add_small}
 use Rattle.line.specs.AnyLine.{add_trees, add_height, scaled, row_gaining, worked, line_row}
 use Rattle.survey.specs.Valid.{Valid}
 use Rattle.survey.proofs.Law.AsWritten.{as_written_lem}
+use Rattle.survey.proofs.Law.Checks.{none_is_some, some_is}
 use Rattle.codec.specs.declared.command.Command.{Command}
 use Rattle.line.specs.declared.line.Line.{Line}
 use Rattle.survey.specs.declared.survey.Survey.{Survey}
@@ -134,39 +133,21 @@ refusal_from_five c s n e = leb-true 5 n (in_each (leb 5) n of_applying refl (re
 pub refusal_not_zero : (c : Command) (s : Survey) (n : ℕ) → apply c s ≡ refused n → n ≡ 0 → ⊥
 refusal_not_zero c s n e zero = omega (arith, refusal_from_five c s n e)
 
--- ---- what the code answers of a command (`after`) tells which it is: no number of a refusal is 0
+-- ---- what is left of a survey or a line, with the refusal if there is one, tells what was reported of the change
 
-pub number_some : (why : Refusal) → 1 ≤ number why
-number_some Refusal.AtEnd = omega arith
-number_some Refusal.UnknownByte = omega arith
-number_some Refusal.CutShort = omega arith
-number_some Refusal.NoRoom = omega arith
-number_some Refusal.Ended = omega arith
-number_some Refusal.Operand = omega arith
-number_some Refusal.AlreadyGiven = omega arith
-number_some Refusal.Undeclared = omega arith
-number_some Refusal.LineOpen = omega arith
-number_some Refusal.NoLine = omega arith
-number_some Refusal.Limit = omega arith
-number_some Refusal.NoHeightTree = omega arith
-number_some Refusal.Tariff = omega arith
-number_some Refusal.NoFactor = omega arith
-number_some Refusal.TooManyTrees = omega arith
-number_some Refusal.ShortSheet = omega arith
+module _ {A : Type 0} (a b : A) where
+  pub is_taken : (r : Report A) → record { left = b; refusal = None } ≡ leaves a r → r ≡ gives b
+  is_taken (gives c) e = sym (ap (λ (x : After A). gives x.left) e)
+  is_taken (refused n) e = none_is_some (ap (λ (x : After A). x.refusal) e)
 
-pub is_taken : (c : Command) (s t : Survey) → record { left = t; refusal = 0 } ≡ leaves s (apply c s) → apply c s ≡ gives t
-is_taken c s t = by_report (apply c s) (refusal_not_zero c s)
-  where
-    by_report : (r : Report Survey) → ((n : ℕ) → r ≡ refused n → n ≡ 0 → ⊥) → record { left = t; refusal = 0 } ≡ leaves s r → r ≡ gives t
-    by_report (refused n) not_zero e = absurd (not_zero n refl (sym (ap (λ (a : After Survey). a.refusal) e)))
-    by_report (gives u) not_zero e = sym (ap (λ (a : After Survey). gives a.left) e)
+  pub is_refused : {n : ℕ} (r : Report A) → record { left = b; refusal = Some n } ≡ leaves a r → r ≡ refused n
+  is_refused (refused m) e = sym (ap refused (some_is (ap (λ (x : After A). x.refusal) e)))
+  is_refused (gives c) e = none_is_some (sym (ap (λ (x : After A). x.refusal) e))
 
-pub is_refused : (c : Command) (s t : Survey) (why : Refusal) → record { left = t; refusal = number why } ≡ leaves s (apply c s) → apply c s ≡ refused (number why)
-is_refused c s t why = by_report (apply c s)
-  where
-    by_report : (r : Report Survey) → record { left = t; refusal = number why } ≡ leaves s r → r ≡ refused (number why)
-    by_report (refused n) e = sym (ap (λ (a : After Survey). refused a.refusal) e)
-    by_report (gives u) e = let zero : number why ≡ 0 = ap (λ (a : After Survey). a.refusal) e in absurd (omega (arith, number_some why))
+  -- where it is refused, nothing is changed
+  pub is_kept : {n : ℕ} (r : Report A) → record { left = b; refusal = Some n } ≡ leaves a r → b ≡ a
+  is_kept (refused m) e = ap (λ (x : After A). x.left) e
+  is_kept (gives c) e = none_is_some (sym (ap (λ (x : After A). x.refusal) e))
 
 -- "5 the book has ended, first of all."
 pub ended_refuses : (c : Command) (s : Survey) → s.ended ≡ true → apply c s ≡ refused 5

@@ -6,14 +6,15 @@
 use Prim.Native.Nat.{ℕ, zero, suc, ◌+◌, ◌≤◌, ◌<◌}
 use Rattle.std.proofs.Common.{lt_of_not-le, arith, ◌∙◌, sym, length-append, lt-ltb, le-ltb, ltb-true, ltb-false}
 use Rattle.std.proofs.Math.Decide.{dec_le}
-use Rattle.std.specs.Prelude.{◌≡◌, Bool, true, false, Option, Some, Result, Ok, Err, List, [], ◌∷◌, ◌++◌, length, ltb}
+use Rattle.std.specs.Result.{is_err}
+use Rattle.std.specs.Prelude.{◌≡◌, Bool, true, false, Option, None, Some, Result, Ok, Err, List, [], ◌∷◌, ◌++◌, length, ltb}
 use Rattle.std.proofs.Math.Path.{refl, ap, ap₂, subst}
 use Rattle.std.proofs.Math.Bool.{cond}
 use Rattle.std.proofs.lemmas.Bool.{false≢true}
-use Rattle.biomass.specs.Report.{Report, refused, gives, when, ◌then◌, given, After, leaves, after}
+use Rattle.biomass.specs.Report.{Report, refused, gives, when, ◌then◌, given, leaves, after}
 use Rattle.biomass.proofs.Law.Gives.{made, figure_is, number_is}
 use Rattle.biomass.proofs.Law.Declines.{Declines, gives_declines, then_declines}
-use Rattle.biomass.proofs.Law.SameChecks.{then_same}
+use Rattle.biomass.proofs.Law.SameChecks.{then_same, then_then}
 use Rattle.codec.specs.Command.{encode}
 use Rattle.codec.specs.Reading.{read}
 use Rattle.survey.specs.Reader.{encode_all, reach}
@@ -29,7 +30,7 @@ use Rattle.codec.proofs.Law.RoundTrip.{read_at_end, read_encoded, read_moves}
 use Rattle.survey.proofs.Law.Reach.{read_declines, reach_refused, reach_on, AllFit, none, and_next}
 use Rattle.survey.proofs.Law.Valid.{fresh_valid, apply_valid}
 use Rattle.survey.proofs.Law.AsWritten.{as_written_lem}
-use Rattle.survey.proofs.Law.Named.{of_applying, in_other, refusal_of_applying, number_some, is_taken, is_refused, ended_refuses}
+use Rattle.survey.proofs.Law.Named.{of_applying, in_other, refusal_of_applying, is_taken, is_refused, is_kept, ended_refuses}
 use Rattle.codec.specs.declared.command.Command.{Command}
 use Rattle.codec.specs.Refusal.{number}
 use Rattle.codec.specs.declared.refusal.Refusal.{Refusal}
@@ -135,32 +136,46 @@ plays_unread book at s n not_ended e = plays_refused book at s n not_ended (ap (
 
 -- by what the code answers of the command: it is taken, or declined
 pub plays_applied : (book : List ℕ) (at : ℕ) (s : Survey) {c : Command} {next : ℕ} {t : Survey} → s.ended ≡ false → read book at ≡ gives (c, next)
-    → record { left = t; refusal = 0 } ≡ leaves s (apply c s) → On book at s next t
-plays_applied book at s {c} {next} {t} not_ended reads e = plays_taken book at s c next reads t not_ended (is_taken c s t e)
+    → record { left = t; refusal = None } ≡ leaves s (apply c s) → On book at s next t
+plays_applied book at s {c} {next} {t} not_ended reads e = plays_taken book at s c next reads t not_ended (is_taken s t (apply c s) e)
 
 pub plays_told : (book : List ℕ) (at : ℕ) (s : Survey) {c : Command} {next : ℕ} {t : Survey} (why : Refusal) → s.ended ≡ false
-    → read book at ≡ gives (c, next) → record { left = t; refusal = number why } ≡ leaves s (apply c s) → play_from book at s ≡ stopped (number why) at
-plays_told book at s {c} {next} {t} why not_ended reads e = plays_declined book at s c next reads (number why) not_ended (is_refused c s t why e)
+    → read book at ≡ gives (c, next) → record { left = t; refusal = Some (number why) } ≡ leaves s (apply c s) → play_from book at s ≡ stopped (number why) at
+plays_told book at s {c} {next} {t} why not_ended reads e = plays_declined book at s c next reads (number why) not_ended (is_refused s t (apply c s) e)
 
 -- ---- the open line by itself (PlaysOn)
 
--- what is noted of an open line is noted of the survey
-line_applied : (note : Line → Report Line) (s : Survey) (l m : Line) → s.ended ≡ false → s.line ≡ Some l → record { left = m; refusal = 0 } ≡ leaves l (note l)
-    → record { left = with_line s m; refusal = 0 } ≡ leaves s (on_line note s)
-line_applied note s l m not_ended is_open e =
-    by_report (note l) e
-    ∙ sym (ap₂ (λ (b : Bool) (o : Option Line). leaves s (when b 5 (given o 10 then λ l. note l then λ k. gives (with_line s k)))) not_ended is_open)
-  where
-    by_report : (r : Report Line) → record { left = m; refusal = 0 } ≡ leaves l r
-        → record { left = with_line s m; refusal = 0 } ≡ leaves s (r then λ k. gives (with_line s k))
-    by_report (gives k) e = ap (λ (a : After Line). record { left = with_line s a.left; refusal = a.refusal }) e
-    by_report (refused n) e =
-        ap (λ (a : After Line). record { left = with_line s a.left; refusal = a.refusal }) e
-        ∙ ap (λ (o : Option Line). record { left = with_state s o s.ended; refusal = n }) (sym is_open)
+-- a tree is taken of the survey where it is taken of the open line, and refused where it is refused
+module _ (book : List ℕ) (at : ℕ) (s : Survey) {l : Line} {next : ℕ} (not_ended : s.ended ≡ false) (is_open : s.line ≡ Some l) where
+  noted_step : (c : Command) (note : Line → Report Line) → apply c s ≡ on_line note s → read book at ≡ gives (c, next)
+      → step book at s ≡ note l then λ m. gives (with_line s m, next)
+  noted_step c note noted reads =
+      step_applies book at s c next reads
+      (noted ∙ ap₂ (λ (b : Bool) (o : Option Line). when b 5 (given o 10 then λ k. note k then λ m. gives (with_line s m))) not_ended is_open)
+      ∙ then_then (λ t. gives (t, next)) (note l) _ _ (λ m taken. refl)
+
+  pub measured_step : {class count : ℕ} → read book at ≡ gives (Command.Measured class count, next)
+      → step book at s ≡ add_trees class count l then λ m. gives (with_line s m, next)
+  unfolding apply_measured
+  measured_step {class} {count} = noted_step (Command.Measured class count) (add_trees class count) refl
+
+  pub height_step : {cm tenths : ℕ} → read book at ≡ gives (Command.Height cm tenths, next)
+      → step book at s ≡ add_height cm tenths l then λ m. gives (with_line s m, next)
+  unfolding apply_height
+  height_step {cm} {tenths} = noted_step (Command.Height cm tenths) (add_height cm tenths) refl
 
 -- nothing is noted yet
 pub plays_on_itself : (book : List ℕ) (at : ℕ) (l : Line) → PlaysOn book at l at l
 plays_on_itself book at l s not_ended is_open = ap (λ (o : Option Line). play_from book at (with_state s o s.ended)) is_open
+
+-- what the code answers of a tree tells whether it is noted; where it is not, the line is as it was
+noted_is : (answer : Result Unit Refusal) (l m : Line) (r : Report Line) → is_err answer ≡ false → after number answer m ≡ leaves l r → r ≡ gives m
+noted_is (Ok done) l m r noted e = is_taken l m r e
+noted_is (Err why) l m r noted e = absurd (false≢true (sym noted))
+
+pub line_kept : (answer : Result Unit Refusal) (l m : Line) (r : Report Line) → is_err answer ≡ true → after number answer m ≡ leaves l r → m ≡ l
+line_kept (Ok done) l m r declined e = absurd (false≢true declined)
+line_kept (Err why) l m r declined e = is_kept l m r e
 
 -- one command more is noted
 pub record NotedOn (book : List ℕ) (from at : ℕ) (first : Line) (next : ℕ) (m : Line) : Type 0 where
@@ -168,38 +183,27 @@ pub record NotedOn (book : List ℕ) (from at : ℕ) (first : Line) (next : ℕ)
   pub inside : next ≤ length book
   pub plays : PlaysOn book from first next m
 
-module _ (book : List ℕ) (from at : ℕ) (first l m : Line) (next : ℕ) (before : PlaysOn book from first at l) where
-  noted_on : (c : Command) (note : Line → Report Line) → ((s : Survey) → apply c s ≡ on_line note s) → read book at ≡ gives (c, next)
-      → record { left = m; refusal = 0 } ≡ leaves l (note l) → NotedOn book from at first next m
-  noted_on c note same reads e =
-      let on : (s : Survey) → s.ended ≡ false → On book at (with_line s l) next (with_line s m) = λ s not_ended.
-      plays_applied book at (with_line s l) not_ended reads
-      (line_applied note (with_line s l) l m not_ended refl e ∙ ap (leaves (with_line s l)) (sym (same (with_line s l)))) in
-      let moves = read_moves book at c next reads in
-      record { moves = moves.0; inside = moves.1; plays = λ s not_ended is_open. before s not_ended is_open ∙ (on s not_ended).plays }
+module _ (book : List ℕ) (from at : ℕ) (first l m : Line) (next : ℕ) (before : PlaysOn book from first at l) (answer : Result Unit Refusal) where
+  noted_on : (r : Report Line) → ((s : Survey) → s.ended ≡ false → s.line ≡ Some l → step book at s ≡ r then λ k. gives (with_line s k, next))
+      → is_err answer ≡ false → after number answer m ≡ leaves l r → NotedOn book from at first next m
+  unfolding fresh
+  noted_on r steps noted e =
+      let on : (s : Survey) → s.ended ≡ false → step book at (with_line s l) ≡ gives (with_line s m, next) = λ s not_ended.
+      steps (with_line s l) not_ended refl ∙ ap (λ (q : Report Line). q then λ k. gives (with_line s k, next)) (noted_is answer l m r noted e) in
+      let moves = step_moves book at (with_line fresh l) (with_line fresh m) next (on fresh refl) in
+      record {
+        moves = moves.0;
+        inside = moves.1;
+        plays = λ s not_ended is_open. before s not_ended is_open ∙ plays_on book at (with_line s l) (with_line s m) next not_ended (on s not_ended);
+      }
 
-  pub measured_on : {class count : ℕ} → read book at ≡ gives (Command.Measured class count, next) → record { left = m; refusal = 0 } ≡ leaves l (add_trees class count l)
-      → NotedOn book from at first next m
-  unfolding apply_measured
-  measured_on {class} {count} reads e = noted_on (Command.Measured class count) (add_trees class count) (λ s. refl) reads e
+  pub measured_on : {class count : ℕ} → read book at ≡ gives (Command.Measured class count, next)
+      → is_err answer ≡ false → after number answer m ≡ leaves l (add_trees class count l) → NotedOn book from at first next m
+  measured_on reads = noted_on _ (λ s not_ended is_open. measured_step book at s not_ended is_open reads)
 
-  pub height_on : {cm tenths : ℕ} → read book at ≡ gives (Command.Height cm tenths, next) → record { left = m; refusal = 0 } ≡ leaves l (add_height cm tenths l)
-      → NotedOn book from at first next m
-  unfolding apply_height
-  height_on {cm} {tenths} reads e = noted_on (Command.Height cm tenths) (add_height cm tenths) (λ s. refl) reads e
-
--- what the code answers of a line that it changes: it is noted, or the line is as it was
-module _ {answered answer : Result Unit Refusal} {m k : Line} {a : After Line} (promise : after number answered k ≡ a) (is : answer ≡ answered) (left : m ≡ k) where
-  pub noted_left : {u : Unit} → answer ≡ Ok u → record { left = m; refusal = 0 } ≡ a
-  noted_left e = ap (λ (l : Line). record { left = l; refusal = 0 }) left ∙ ap (λ (r : Result Unit Refusal). after number r k) (sym e ∙ is) ∙ promise
-
-  pub refused_left : {why : Refusal} → answer ≡ Err why → record { left = m; refusal = number why } ≡ a
-  refused_left {why} e =
-      ap (λ (l : Line). record { left = l; refusal = number why }) left ∙ ap (λ (r : Result Unit Refusal). after number r k) (sym e ∙ is) ∙ promise
-
-pub line_kept : (l m : Line) (r : Report Line) (why : Refusal) → record { left = m; refusal = number why } ≡ leaves l r → m ≡ l
-line_kept l m (refused n) why e = ap (λ (a : After Line). a.left) e
-line_kept l m (gives k) why e = let zero : number why ≡ 0 = ap (λ (a : After Line). a.refusal) e in absurd (omega (arith, number_some why))
+  pub height_on : {cm tenths : ℕ} → read book at ≡ gives (Command.Height cm tenths, next)
+      → is_err answer ≡ false → after number answer m ≡ leaves l (add_height cm tenths l) → NotedOn book from at first next m
+  height_on reads = noted_on _ (λ s not_ended is_open. height_step book at s not_ended is_open reads)
 
 -- ---- what a whole book comes to
 

@@ -11,7 +11,7 @@ use Rattle.rules.specs.Checks.{most_lines}
 use Rattle.survey.specs.Total.{sum_of, row_trees, low_of, high_of, sums}
 use Rattle.line.specs.declared.row.Row.{Row}
 
--- and so the first of them
+-- of small rows, the first are small
 pub first_small : (i n : ℕ) (rows : List Row) → i ≤ n → RowsSmall (take n rows) → RowsSmall (take i rows)
 first_small zero n rows h small = RowsSmall.none
 first_small (suc i) zero rows h small = absurd (omega arith)

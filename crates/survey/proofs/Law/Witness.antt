@@ -39,20 +39,20 @@ pub taken_changes : (c : Command) (s t : Survey) → Valid s → apply c s ≡ g
 taken_changes c s t v e = effect_changes v (effect c s t e)
 
 -- and is not swallowed
-pub not_swallowed : (c : Command) (s t : Survey) → Valid s → apply c s ≡ gives t → leaves s (apply c s) ≡ record { left = s; refusal = 0 } → ⊥
+pub not_swallowed : (c : Command) (s t : Survey) → Valid s → apply c s ≡ gives t → leaves s (apply c s) ≡ record { left = s; refusal = None } → ⊥
 not_swallowed c s t v e swallowed =
     taken_changes c s t v e (ap (λ (r : Report Survey). (leaves s r).left) (sym e) ∙ ap (λ (x : After Survey). x.left) swallowed)
 
 -- 11 comes back only at the limit
-pub told_at_limit : (c : Command) (s : Survey) → (leaves s (apply c s)).refusal ≡ 11 → AtLimit c s
+pub told_at_limit : (c : Command) (s : Survey) → (leaves s (apply c s)).refusal ≡ Some 11 → AtLimit c s
 told_at_limit c s = by_cases (apply c s) (limit_told c s)
   where
-    by_cases : (r : Report Survey) → (r ≡ refused 11 → AtLimit c s) → (leaves s r).refusal ≡ 11 → AtLimit c s
-    by_cases (refused n) decision e = decision (ap refused e)
-    by_cases (gives t) decision e = absurd (omega arith)
+    by_cases : (r : Report Survey) → (r ≡ refused 11 → AtLimit c s) → (leaves s r).refusal ≡ Some 11 → AtLimit c s
+    by_cases (refused n) decision e = decision (ap refused (some_is e))
+    by_cases (gives t) decision e = none_is_some e
 
 pub lines_below_limit : (stratum id p q : ℕ) (s u : Survey) → s.closed < most_lines →
-    leaves s (apply (Command.Open stratum id p q) s) ≡ record { left = u; refusal = 11 } → ⊥
+    leaves s (apply (Command.Open stratum id p q) s) ≡ record { left = u; refusal = Some 11 } → ⊥
 lines_below_limit stratum id p q s u below e =
     let at : most_lines ≤ s.closed = told_at_limit (Command.Open stratum id p q) s (ap (λ (x : After Survey). x.refusal) e) in
     omega arith
@@ -63,14 +63,14 @@ open_line_is None h k = h
 open_line_is (Some l) h k = k l refl h
 
 pub trees_below_limit : (class count : ℕ) (s u : Survey) → ((l : Line) → s.line ≡ Some l → l.tally.n + count ≤ most_measured) →
-    leaves s (apply (Command.Measured class count) s) ≡ record { left = u; refusal = 11 } → ⊥
+    leaves s (apply (Command.Measured class count) s) ≡ record { left = u; refusal = Some 11 } → ⊥
 trees_below_limit class count s u below e =
     open_line_is s.line (told_at_limit (Command.Measured class count) s (ap (λ (x : After Survey). x.refusal) e)) λ l is_open over.
     let few = below l is_open in
     omega arith
 
 pub heights_below_limit : (cm tenths : ℕ) (s u : Survey) → ((l : Line) → s.line ≡ Some l → l.heights.number < most_heights) →
-    leaves s (apply (Command.Height cm tenths) s) ≡ record { left = u; refusal = 11 } → ⊥
+    leaves s (apply (Command.Height cm tenths) s) ≡ record { left = u; refusal = Some 11 } → ⊥
 heights_below_limit cm tenths s u below e =
     open_line_is s.line (told_at_limit (Command.Height cm tenths) s (ap (λ (x : After Survey). x.refusal) e)) λ l is_open at.
     let few = below l is_open in
@@ -91,37 +91,37 @@ unfolding with_line1
 with_four_trees = with_line with_line1 (with_trees 60 4 (new_line 1 3 listed 6 1))
 
 -- each command is taken, and leaves the next of these surveys
-pub species_taken : leaves fresh (apply species3 fresh) ≡ record { left = with_species3; refusal = 0 }
+pub species_taken : leaves fresh (apply species3 fresh) ≡ record { left = with_species3; refusal = None }
 unfolding fresh declare with_species3
 species_taken = refl
 
-pub line_taken : leaves with_species3 (apply line1 with_species3) ≡ record { left = with_line1; refusal = 0 }
+pub line_taken : leaves with_species3 (apply line1 with_species3) ≡ record { left = with_line1; refusal = None }
 unfolding fresh opened open_line with_species3 with_line1
 line_taken = refl
 
-pub trees_taken : leaves with_line1 (apply four_trees with_line1) ≡ record { left = with_four_trees; refusal = 0 }
+pub trees_taken : leaves with_line1 (apply four_trees with_line1) ≡ record { left = with_four_trees; refusal = None }
 unfolding fresh add_trees apply_measured with_species3 with_line1 with_four_trees
 trees_taken = refl
 
 -- none is swallowed: a line is open after the one, 4 trees are noted after the other, and an ended book has ended
-pub line_not_swallowed : leaves with_species3 (apply line1 with_species3) ≡ record { left = with_species3; refusal = 0 } → ⊥
+pub line_not_swallowed : leaves with_species3 (apply line1 with_species3) ≡ record { left = with_species3; refusal = None } → ⊥
 unfolding fresh with_species3 with_line1
 line_not_swallowed e = true≢false (ap (λ (x : After Survey). is_some x.left.line) (sym line_taken ∙ e))
 
-pub trees_not_swallowed : leaves with_line1 (apply four_trees with_line1) ≡ record { left = with_line1; refusal = 0 } → ⊥
+pub trees_not_swallowed : leaves with_line1 (apply four_trees with_line1) ≡ record { left = with_line1; refusal = None } → ⊥
 unfolding fresh with_species3 with_line1 with_four_trees
 trees_not_swallowed e = let four : ◌≡◌ {A = ℕ} 4 0 = ap (λ (x : After Survey). unwrap_or (option_map (λ (l : Line). l.tally.n) x.left.line) 0) (sym trees_taken ∙ e) in omega arith
 
-pub end_not_swallowed : leaves fresh (apply Command.End fresh) ≡ record { left = fresh; refusal = 0 } → ⊥
+pub end_not_swallowed : leaves fresh (apply Command.End fresh) ≡ record { left = fresh; refusal = None } → ⊥
 unfolding fresh end
 end_not_swallowed e = true≢false (ap (λ (x : After Survey). x.left.ended) e)
 
 -- and neither the line nor the trees are told 11
-pub line_not_over : leaves with_species3 (apply line1 with_species3) ≡ record { left = with_species3; refusal = 11 } → ⊥
+pub line_not_over : leaves with_species3 (apply line1 with_species3) ≡ record { left = with_species3; refusal = Some 11 } → ⊥
 unfolding fresh with_species3
 line_not_over e = lines_below_limit 1 3 6 1 with_species3 with_species3 (lit< tt) e
 
-pub trees_not_over : leaves with_line1 (apply four_trees with_line1) ≡ record { left = with_line1; refusal = 11 } → ⊥
+pub trees_not_over : leaves with_line1 (apply four_trees with_line1) ≡ record { left = with_line1; refusal = Some 11 } → ⊥
 unfolding fresh with_species3 with_line1
 trees_not_over e =
     trees_below_limit 60 4 with_line1 with_line1 (λ l is. subst (λ (m : Line). m.tally.n + 4 ≤ most_measured) (some_is is) (lit≤ tt)) e

@@ -3,7 +3,7 @@ use Rattle.std.proofs.Common.{◌≡◌, ℕ, Result, Err, sym, subst, arith}
 use Rattle.codec.specs.declared.refusal.Refusal.{Refusal}
 use Rattle.survey.specs.declared.survey.Survey.{Survey}
 use Rattle.survey.specs.Playing.{Steps}
-use Rattle.survey.proofs.Law.Playing.{On, plays_applied, plays_told, plays_unread}
+use Rattle.survey.proofs.Law.Playing.{plays_applied, plays_told, plays_unread}
 use Rattle.survey.proofs.playing.step.Goals as goal
 
 -- by what is known of the answer
