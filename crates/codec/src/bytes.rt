@@ -6,7 +6,7 @@ ghost use Rattle.codec.specs.Bytes.{byte, number_at, bytes, store, after_store, 
 
 use super::refusal::Refusal;
 
-// The byte at a place; 0 past the end. No `Option`, here and below: a public routine that cannot fail goes on so.
+// The byte at a place; 0 past the end. No `Option`, in this one and in the three wider ones below: what cannot fail stays so.
 pub fn byte(s: &[u8], at: usize) -> u8
     ensures { result ≡ byte s.now at }
 {

@@ -9,7 +9,7 @@
 --     Sheet: row_reads_back                   a row that is stored is read back as it was
 --     Effect: effect                          what a command that is taken changes is a species, a factor, the line or the rows
 --     Valid: fresh_valid, apply_valid         a fresh survey is valid, and every command keeps a survey so; `reached_valid`: so every one that commands reach is
---     Checks: declared_true, opened_in_table    no id above 15 is declared, and no command that names one is taken
+--     Checks: declared_true, past_table       no id above 15 is declared, nor has it a place in the table; `declared_in_table`, `opened_in_table`: no command that names one is taken
 --     AsWritten: as_written_lem                   of a valid survey, applying is the papers' text, with no refusal but those that it names
 --     AsWritten: row_of_none                  the row of a line with n = 0 and no small trees has no figure above 0
 --     Named: only_named, never_other          the refusals of each command are those that the papers name; of any survey, besides only 6 and 11

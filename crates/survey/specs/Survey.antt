@@ -68,9 +68,12 @@ with_end s = with_state s s.line true
 
 -- ---- the commands. "5 the book has ended, first of all." What else a declaration, an opening and the end decline is Checks
 
--- whether a species is declared. "An id above 15 included": none is, in a table of 16 places (Law.Checks: declared_true, opened_in_table)
+-- "8 species undeclared, an id above 15 included": what a species is declared with, and whether it is declared
+abbrev pub declared_with : ℕ → Survey → Option Species
+declared_with id s = cond (inside 0 id 15) (species_at s id) None
+
 abbrev pub declared : ℕ → Survey → Bool
-declared id s = is_some (species_at s id)
+declared id s = is_some (declared_with id s)
 
 -- "Species and factor: 6 ..; 7 already given."
 unfoldable pub declare : ℕ → Species → Survey → Report Survey
@@ -93,7 +96,7 @@ opened stratum id s = any_line stratum id (rows_of s)
 unfoldable pub open_line : ℕ → ℕ → ℕ → ℕ → Survey → Report Survey
 open_line stratum id p q s =
     when s.ended 5
-    (opening p q (is_some s.line) (species_at s id) (opened stratum id s) s.closed λ x.
+    (opening p q (is_some s.line) (declared_with id s) (opened stratum id s) s.closed λ x.
     gives (with_line s (new_line stratum id x p q)))
 
 -- "04 measured trees: class in cm (1, 7 to 100), count (2, 1 and up)." "1,000,000 measured trees .. a line"

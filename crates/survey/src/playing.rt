@@ -17,7 +17,7 @@ pub struct Stopped {
 
 // Measured trees and height trees of an open line, from a place on up to the first command that is another or that is
 // refused: the place of that command. Nearly all commands of a long book are of these two, and they change the line alone:
-// read and taken as all others are, they take twice as long, and more where each is noted of the survey.
+// read and taken as all others are, they take two to three times as long.
 fn note_trees(book: &[u8], from: usize, line: &mut Line) -> usize
     requires { from ≤ length book.now }
     ensures place { (from ≤ result) × (result ≤ length book.now) }

@@ -3,7 +3,7 @@
 ghost use Rattle.std.specs.Prelude.{◌≡◌, get_or, None};
 ghost use Rattle.biomass.specs.Report.{report, gives, when, after, leaves};
 ghost use Rattle.codec.specs.Refusal.{number};
-ghost use Rattle.survey.specs.Survey.{fresh, rows_of, opened, declare, give_factor, open_line, give_small, end};
+ghost use Rattle.survey.specs.Survey.{fresh, rows_of, declared_with, opened, declare, give_factor, open_line, give_small, end};
 ghost use Rattle.survey.specs.Apply.{apply_measured, apply_height, apply_close, apply};
 
 use biomass::units::{BiomassRange, Milligrams};
@@ -81,6 +81,13 @@ impl Survey {
             .any(|row| row.stratum == stratum && row.species == id)
     }
 
+    // What a species is declared with, where it is. No id above 15 has a place in the table.
+    fn declared_with(&self, id: u8) -> Option<Species>
+        ensures { result ≡ declared_with id self.now }
+    {
+        standing(&self.species, id)
+    }
+
     // 5: the book has ended, first of all. Asked by each command, and not once by `take`: so each answers for any survey.
     fn unless_ended(&self) -> Result<(), Refusal>
         ensures { report number result ≡ when self.now.ended 5 (gives tt) }
@@ -97,7 +104,7 @@ impl Survey {
         ensures { after number result self.new ≡ leaves self.old (declare id species self.old) }
     {
         self.unless_ended()?;
-        declaring(id, species, standing(&self.species, id))?;
+        declaring(id, species, self.declared_with(id))?;
         self.species[id as usize] = Some(species);
         Ok(())
     }
@@ -123,7 +130,7 @@ impl Survey {
             p,
             q,
             self.line.is_some(),
-            standing(&self.species, id),
+            self.declared_with(id),
             self.opened(stratum, id),
             self.closed,
         )?;

@@ -87,7 +87,7 @@ pub tree_bounds : (t : AverageTree) (m : BiomassRange) → tree t ≡ gives m �
 tree_bounds t m e =
     let g = tree_gives t m e in
     let b = parts_bounded g.operands in
-    subst TreeBounds (sym g.is) (record { ordered = omega arith; near = omega arith; small = omega arith })
+    subst TreeBounds (sym g.is) (omega arith)
 
 -- ---- one row
 

@@ -28,10 +28,7 @@ abbrev pub height_first : List Command
 height_first = species3 ∷ factor101 ∷ line1 ∷ height_tree ∷ four_trees ∷ Close ∷ line2 ∷ Close ∷ End ∷ []
 
 listed_fits : Fits species3
-listed_fits = (
-  omega arith,
-  record { crown = omega arith; root = omega arith; gravity = omega arith; c1 = omega arith; c2 = omega arith; c3 = omega arith; c4 = omega arith },
-)
+listed_fits = omega arith
 
 -- it is the listing in another order
 pub listing_other_order : OtherOrder listing (encode_all height_first)

@@ -58,7 +58,7 @@ squares_within s l v is_open =
 -- each height tree adds from 1 to 50 to the tariffs
 pub heights_valid : (h : Heights) (T : ℕ) → ValidHeights h → Inside 1 T 50 → h.number < most_heights
     → ValidHeights (record { number = h.number + 1; tariffs = h.tariffs + T })
-heights_valid h T before T_range room = record { few = omega arith; tariffs = omega (arith, before.tariffs) }
+heights_valid h T before T_range room = omega (arith, before.tariffs)
 
 tariffs_within : (s : Survey) (l : Line) → Valid s → s.line ≡ Some l → leb l.heights.tariffs most_tariffs ≡ true
 tariffs_within s l v is_open =

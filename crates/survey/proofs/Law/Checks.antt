@@ -1,15 +1,15 @@
 -- Laws of the checks that a command goes through: what a figure that is given says of each test on the way, and what the tests of two or more parts say.
 use Rattle.std.specs.Prelude.{ℕ, ◌≤◌, ◌≡◌, refl, Bool, true, false, cond, Option, None, Some, is_some, length, eqb, ◌&&◌}
-use Rattle.std.proofs.Common.{lt_of_not-le, arith, ◌∙◌, sym, ap, ap₂, subst, ne_eqb}
+use Rattle.std.proofs.Common.{zero-le, lt_of_not-le, arith, ◌∙◌, sym, ap, ap₂, subst, ne_eqb}
 use Rattle.std.proofs.Math.Decide.{ℕ_discrete, dec_le}
 use Rattle.std.proofs.lemmas.Bool.{false≢true}
 use Rattle.std.proofs.lemmas.List.{get_or_past}
 use Rattle.biomass.specs.Bounds.{Inside}
 use Rattle.biomass.specs.Whole.{inside}
 use Rattle.biomass.specs.Report.{Report, refused, gives, unless, ◌then◌, when, given}
-use Rattle.biomass.proofs.Law.Report.{inside_true, both_true}
+use Rattle.biomass.proofs.Law.Report.{inside_true, true_inside, both_true}
 use Rattle.biomass.proofs.Law.Gives.{never, figure_is}
-use Rattle.survey.specs.Survey.{species_at, declared, declare, open_line}
+use Rattle.survey.specs.Survey.{species_at, declared_with, declared, declare, open_line}
 use Rattle.rules.specs.Checks.{species_in_range, is_line}
 use Rattle.survey.specs.Valid.{ValidSpecies}
 use Rattle.codec.specs.declared.command.Species.{Species}
@@ -76,7 +76,11 @@ nothing_there (Some a) e = absurd (false≢true (sym e))
 
 -- ---- tests of two parts
 
--- "8 species undeclared, an id above 15 included": such an id has no place in the table
+-- up to 15, a species is declared with what stands at its id
+pub up_to_15 : (id : ℕ) (s : Survey) → id ≤ 15 → declared_with id s ≡ species_at s id
+up_to_15 id s up_to = ap (λ (test : Bool). cond test (species_at s id) None) (true_inside 0 id 15 zero-le up_to)
+
+-- "8 species undeclared, an id above 15 included": such an id has no place in the table, so that the code need not ask
 pub in_table : (s : Survey) (id : ℕ) (x : Species) → length s.species ≡ 16 → species_at s id ≡ Some x → id ≤ 15
 in_table s id x long is =
     elim (dec_le (length s.species) id) [
@@ -84,23 +88,39 @@ in_table s id x long is =
       | no inside ↦ omega (arith, lt_of_not-le inside)
     ]
 
--- a species is declared where its id is up to 15 and something stands there; and in a table of 16 places only there
+pub past_table : (s : Survey) (id : ℕ) → length s.species ≡ 16 → species_at s id ≡ declared_with id s
+past_table s id long = by_place (species_at s id) (inside 0 id 15) (λ x is. true_inside 0 id 15 zero-le (in_table s id x long is))
+  where
+    by_place : (o : Option Species) (test : Bool) → ((x : Species) → o ≡ Some x → test ≡ true) → o ≡ cond test o None
+    by_place None true up_to = refl
+    by_place None false up_to = refl
+    by_place (Some x) test up_to = sym (ap (λ (b : Bool). cond b (Some x) None) (up_to x refl))
+
+-- a species is declared where its id is up to 15 and something stands there
 pub record Declared (id : ℕ) (s : Survey) : Type 0 where
   pub in_table : id ≤ 15
   pub species : Species
   pub is : species_at s id ≡ Some species
 
-pub declared_true : (id : ℕ) (s : Survey) → length s.species ≡ 16 → declared id s ≡ true → Declared id s
-declared_true id s long e =
-    let there = something_there (species_at s id) e in
-    record { in_table = in_table s id there.0 long there.1; species = there.0; is = there.1 }
+pub declared_is : (id : ℕ) (s : Survey) (x : Species) → declared_with id s ≡ Some x → (id ≤ 15) × (species_at s id ≡ Some x)
+declared_is id s x = by_test (inside 0 id 15) (inside_true 0 id 15)
+  where
+    by_test : (test : Bool) → (test ≡ true → Inside 0 id 15) → cond test (species_at s id) None ≡ Some x → (id ≤ 15) × (species_at s id ≡ Some x)
+    by_test true up_to e = ((up_to refl).most, e)
+    by_test false up_to e = none_is_some e
+
+pub declared_true : (id : ℕ) (s : Survey) → declared id s ≡ true → Declared id s
+declared_true id s e =
+    let some = something_there (declared_with id s) e in
+    let is = declared_is id s some.0 some.1 in
+    record { in_table = is.0; species = some.0; is = is.1 }
 
 pub true_declared : (id : ℕ) (s : Survey) → Declared id s → declared id s ≡ true
-true_declared id s d = ap is_some d.is
+true_declared id s d = ap is_some (up_to_15 id s d.in_table ∙ d.is)
 
 -- whether it is declared hangs on what stands at its id
 pub declared_as_lem : (id : ℕ) (s t : Survey) → species_at t id ≡ species_at s id → declared id t ≡ declared id s
-declared_as_lem id s t e = ap is_some e
+declared_as_lem id s t e = ap (λ (x : Option Species). is_some (cond (inside 0 id 15) x None)) e
 
 pub species_in_range_lem : (id : ℕ) (s : Species) → species_in_range id s ≡ true → Inside 0 id 15 × ValidSpecies s
 species_in_range_lem id s e =
@@ -116,6 +136,9 @@ species_in_range_lem id s e =
     )
 
 -- no command that names an id above 15 is taken
+declared_up_to : (id : ℕ) (s : Survey) (x : Species) → declared_with id s ≡ Some x → id ≤ 15
+declared_up_to id s x e = (declared_is id s x e).0
+
 id_in_range : (id : ℕ) (x : Species) → species_in_range id x ≡ true → id ≤ 15
 id_in_range id x e = (species_in_range_lem id x e).0.most
 
@@ -123,9 +146,9 @@ pub declared_in_table : (id : ℕ) (x : Species) (s : Survey) → Gives (λ _. i
 unfolding declare
 declared_in_table id x s = search (passed, id_in_range) depth 12
 
-pub opened_in_table : (stratum id p q : ℕ) (s : Survey) → length s.species ≡ 16 → Gives (λ _. id ≤ 15) (open_line stratum id p q s)
+pub opened_in_table : (stratum id p q : ℕ) (s : Survey) → Gives (λ _. id ≤ 15) (open_line stratum id p q s)
 unfolding open_line
-opened_in_table stratum id p q s long = search (passed, in_table) depth 12
+opened_in_table stratum id p q s = search (passed, declared_up_to) depth 12
 
 eqb_symmetric : (a b : ℕ) → eqb a b ≡ eqb b a
 eqb_symmetric a b =

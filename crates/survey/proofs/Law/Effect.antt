@@ -11,13 +11,13 @@ use Rattle.biomass.proofs.Law.Report.{inside_true, both_true}
 use Rattle.biomass.proofs.Law.Tariff.{single_tariff_range}
 use Rattle.codec.specs.Command.{Fits}
 use Rattle.line.specs.Line.{line_with, new_line, with_trees, with_height, with_small, tariff_of, add_small, factor_at}
-use Rattle.survey.specs.Survey.{species_at, with_state, with_species, with_factor, with_line, with_row, with_end, declare, give_factor, opened, open_line, give_small, end}
+use Rattle.survey.specs.Survey.{declared_with, species_at, with_state, with_species, with_factor, with_line, with_row, with_end, declare, give_factor, opened, open_line, give_small, end}
 use Rattle.rules.specs.Checks.{most_lines, species_in_range, areas_in_range}
 use Rattle.survey.specs.Closings.{Closing, of_open, closing}
 use Rattle.survey.specs.Apply.{on_line, apply_measured, apply_height, apply_close, apply}
 use Rattle.line.specs.AnyLine.{add_trees, add_height}
 use Rattle.survey.specs.Valid.{ValidSpecies, ValidTally, ValidHeights, ValidSmall, ValidLine, Valid}
-use Rattle.survey.proofs.Law.Checks.{Gives, gives_such, when_such, then_such, given_such, passed, none_is_some, some_is, nothing_there, species_in_range_lem}
+use Rattle.survey.proofs.Law.Checks.{Gives, gives_such, when_such, then_such, given_such, passed, none_is_some, some_is, nothing_there, up_to_15, declared_is, species_in_range_lem}
 use Rattle.survey.proofs.Law.AsWritten.{tallied_valid, heights_valid, small_given_lem}
 use Rattle.codec.specs.declared.command.Species.{Species}
 use Rattle.codec.specs.declared.command.Command.{Command}
@@ -61,10 +61,10 @@ pub data Effect (c : Command) (s : Survey) : Survey → List Closing → Type 0 
 -- ---- what the checks say
 
 module _ {c : Command} (s : Survey) where
-  species_given : (id : ℕ) (x : Species) → species_in_range id x ≡ true → is_some (species_at s id) ≡ false → Effect c s (with_species s id x) []
+  species_given : (id : ℕ) (x : Species) → species_in_range id x ≡ true → is_some (declared_with id s) ≡ false → Effect c s (with_species s id x) []
   species_given id x range new =
       let ranges = species_in_range_lem id x range in
-      a_species (record { in_table = ranges.0; in_range = ranges.1; new = nothing_there (species_at s id) new })
+      a_species (record { in_table = ranges.0; in_range = ranges.1; new = sym (up_to_15 id s ranges.0.most) ∙ nothing_there (declared_with id s) new })
 
   factor_given : (cm x : ℕ) → inside 7 cm 100 ≡ true → inside 100 x 200 ≡ true → is_some (factor_at s.factors cm) ≡ false → Effect c s (with_factor s cm x) []
   factor_given cm x in_cm in_factor new =
@@ -76,14 +76,14 @@ module _ {c : Command} (s : Survey) where
 
   -- a line is opened, and its stratum is a byte of the command
   line_opened : (stratum id p q : ℕ) (x : Species) → (Fits c → stratum < 256) → s.ended ≡ false → areas_in_range p q ≡ true → is_some s.line ≡ false
-      → species_at s id ≡ Some x → opened stratum id s ≡ false → leb most_lines s.closed ≡ false → Effect c s (with_line s (new_line stratum id x p q)) []
+      → declared_with id s ≡ Some x → opened stratum id s ≡ false → leb most_lines s.closed ≡ false → Effect c s (with_line s (new_line stratum id x p q)) []
   line_opened stratum id p q x byte not_ended in_range none_open there first room =
       let areas = both_true (inside 1 p greatest_area) (inside 1 q greatest_area) in_range in
       the_line (record {
         room = λ v l is. leb-false most_lines s.closed room;
         line = λ v l is.
             subst (ValidLine s) (some_is is) (record {
-              species = there;
+              species = (declared_is id s x there).1;
               p = inside_true 1 p greatest_area areas.0;
               q = inside_true 1 q greatest_area areas.1;
               tally = record { few = zero-le; squares = omega arith };

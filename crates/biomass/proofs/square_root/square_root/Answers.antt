@@ -37,7 +37,7 @@ overflow_shr-area c = let h = highest c.args.x (omega arith) in omega arith
 pub loop-area-init : goal.loop-area-init
 loop-area-init c = let h = highest c.args.x (omega arith) in first _ _ h.0 h.1 h.2
 
--- the bit is taken into the root, or it is not
+-- the bit is taken into the root, or it is not. Each part of `Between` stands by itself, so that one that an edit makes false is told with numbers
 pub loop-area-preserved : goal.loop-area-preserved
 loop-area-preserved c =
     let s = c.loop-area.invariant in
