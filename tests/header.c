@@ -1,7 +1,7 @@
 /*
  * Every function of bindings/c/fieldbook.h, called as the header has it, in C and in C++: document 01's marked lines
- * and its listing, the saplings of the protocol's Appendix 6, square roots, and the version. The status is 0 where all
- * hold.
+ * and its listing, the saplings of the protocol's Appendix 6, areas that are exchanged, square roots, and the version.
+ * The status is 0 where all hold.
  */
 #include "fieldbook.h"
 
@@ -43,6 +43,8 @@ static void tariffs_and_trees(void) {
     holds(fieldbook_mean(400, 19881, &x) == 0 && x == 71, "(d)");
     holds(fieldbook_mean(1, 48, &x) == FIELDBOOK_OPERAND && x == 0, "6");
     holds(fieldbook_trees(4, 6, 1, &x) == 0 && x == 2400, "the listing's trees");
+    holds(fieldbook_trees(1, 1, 200, &x) == 0 && x == 1, "a two-hundredth of a tree");
+    holds(fieldbook_trees(1, 1, 201, &x) == 0 && x == 0, "less than that");
 }
 
 /* The oak of the listing: 60 cm, and 12 m high. */
@@ -108,6 +110,25 @@ static void books(void) {
     holds(fieldbook_sheet_row(sheet, FIELDBOOK_ROW_BYTES, 1, row) == FIELDBOOK_AT_END, "1");
 }
 
+/* A line of the oak, of 5,000 and 250 square metres: the net area is the first of the two. */
+static void areas(void) {
+    const uint64_t good[FIELDBOOK_COMMAND_NUMBERS] = {FIELDBOOK_OPEN, 1, 3, 5000, 250};
+    const uint64_t exchanged[FIELDBOOK_COMMAND_NUMBERS] = {FIELDBOOK_OPEN, 1, 3, 250, 5000};
+    const uint8_t close_and_end[] = {FIELDBOOK_CLOSE, FIELDBOOK_END};
+    uint8_t book[sizeof oak + 11 + sizeof close_and_end], sheet[FIELDBOOK_SHEET_BYTES] = {0};
+    uint64_t totals[FIELDBOOK_TOTAL_NUMBERS];
+    size_t next;
+    memcpy(book, oak, sizeof oak);
+    memcpy(book + sizeof oak + 11, close_and_end, sizeof close_and_end);
+    holds(fieldbook_write(book, sizeof book, sizeof oak, good, &next) == 0, "an opening");
+    holds(fieldbook_total(book, sizeof book, sheet, sizeof sheet, totals) == FIELDBOOK_ACCEPTED, "plots in the wood");
+    holds(totals[FIELDBOOK_TOTAL_ROWS] == 1 && totals[FIELDBOOK_TOTAL_TREES] == 0, "a line without trees");
+    holds(totals[FIELDBOOK_TOTAL_LOW] == totals[FIELDBOOK_TOTAL_HIGH], "equal figures");
+    holds(fieldbook_write(book, sizeof book, sizeof oak, exchanged, &next) == 0, "the areas exchanged");
+    holds(fieldbook_total(book, sizeof book, sheet, sizeof sheet, totals) == FIELDBOOK_PLOTS_ABOVE_AREA, "17");
+    holds(totals[FIELDBOOK_TOTAL_PLACE] == sizeof oak && totals[FIELDBOOK_TOTAL_ROWS] == 0, "the place of 17");
+}
+
 int main(void) {
     version();
     tariffs_and_trees();
@@ -116,5 +137,6 @@ int main(void) {
     square_roots();
     commands();
     books();
+    areas();
     return status;
 }

@@ -22,30 +22,31 @@ extern "C" {
 #endif
 
 /* The version of this header, the Rust crate and the book's format together; CHANGELOG.md has what raises it. */
-#define FIELDBOOK_VERSION_MAJOR 1
-#define FIELDBOOK_VERSION_MINOR 2
-#define FIELDBOOK_VERSION_PATCH 1
-#define FIELDBOOK_VERSION "1.2.1"
+#define FIELDBOOK_VERSION_MAJOR 2
+#define FIELDBOOK_VERSION_MINOR 0
+#define FIELDBOOK_VERSION_PATCH 0
+#define FIELDBOOK_VERSION "2.0.0"
 
 /* The numbers of the refusals. */
 enum {
     FIELDBOOK_ACCEPTED = 0,
-    FIELDBOOK_AT_END = 1,          /* there are no more bytes; of a book, its end (07) is missing */
-    FIELDBOOK_UNKNOWN_BYTE = 2,    /* no command has this byte */
-    FIELDBOOK_CUT_SHORT = 3,       /* the operands are cut short */
-    FIELDBOOK_NO_ROOM = 4,         /* too few bytes from there; no book gets it */
-    FIELDBOOK_ENDED = 5,           /* the book has ended: bytes after 07 */
-    FIELDBOOK_OPERAND = 6,         /* an operand is outside its range */
-    FIELDBOOK_ALREADY_GIVEN = 7,   /* already given: species, factor, line of stratum and species, its small trees */
-    FIELDBOOK_UNDECLARED = 8,      /* the species is not declared */
-    FIELDBOOK_LINE_OPEN = 9,       /* a line is open */
-    FIELDBOOK_NO_LINE = 10,        /* no line is open */
-    FIELDBOOK_LIMIT = 11,          /* 32 lines are opened, or the line would have too many measured or height trees */
-    FIELDBOOK_NO_HEIGHT_TREE = 12, /* no height tree */
-    FIELDBOOK_TARIFF = 13,         /* the tariff is outside 1 to 50 */
-    FIELDBOOK_NO_FACTOR = 14,      /* no factor for the line's mean diameter */
-    FIELDBOOK_TOO_MANY_TREES = 15, /* more than 1,000,000 estimated trees of one sort, measured or small */
-    FIELDBOOK_SHORT_SHEET = 16     /* the sheet has fewer than 800 bytes */
+    FIELDBOOK_AT_END = 1,           /* there are no more bytes; of a book, its end (07) is missing */
+    FIELDBOOK_UNKNOWN_BYTE = 2,     /* no command has this byte */
+    FIELDBOOK_CUT_SHORT = 3,        /* the operands are cut short */
+    FIELDBOOK_NO_ROOM = 4,          /* too few bytes from there; no book gets it */
+    FIELDBOOK_ENDED = 5,            /* the book has ended: bytes after 07 */
+    FIELDBOOK_OPERAND = 6,          /* an operand is outside its range */
+    FIELDBOOK_ALREADY_GIVEN = 7,    /* already given: species, factor, line of stratum and species, its small trees */
+    FIELDBOOK_UNDECLARED = 8,       /* the species is not declared */
+    FIELDBOOK_LINE_OPEN = 9,        /* a line is open */
+    FIELDBOOK_NO_LINE = 10,         /* no line is open */
+    FIELDBOOK_LIMIT = 11,           /* 32 lines are opened, or the line would have too many measured or height trees */
+    FIELDBOOK_NO_HEIGHT_TREE = 12,  /* no height tree */
+    FIELDBOOK_TARIFF = 13,          /* the tariff is outside 1 to 50 */
+    FIELDBOOK_NO_FACTOR = 14,       /* no factor for the line's mean diameter */
+    FIELDBOOK_TOO_MANY_TREES = 15,  /* more than 1,000,000 estimated trees of one sort, measured or small */
+    FIELDBOOK_SHORT_SHEET = 16,     /* the sheet has fewer than 800 bytes */
+    FIELDBOOK_PLOTS_ABOVE_AREA = 17 /* the plots' area q is above the net area p: are the two exchanged? */
 };
 
 /* The bytes of a row, and the fewest of a sheet: room for 32 rows. */
@@ -78,7 +79,7 @@ enum {
  *
  *     01 species          id, crown group, root group, gravity, c1, c2, c3, c4 (two's complement of 64 bits: int64_t)
  *     02 factor           cm, factor
- *     03 open a line      stratum, species, p, q
+ *     03 open a line      stratum, species, p, q (net area and plot area: q at most p)
  *     04 measured trees   class, count
  *     05 height tree      cm, tenths of a metre
  *     06 close the line
@@ -102,7 +103,8 @@ enum { FIELDBOOK_LOW, FIELDBOOK_HIGH, FIELDBOOK_ENDS };
 
 /* Totals a book into a sheet of 800 bytes or more: the rows stand from its first byte on, and no other bytes change.
    Where the book is refused, the sheet is as it was, and the answer is 0 but for the place. The order of 04, 05 and 08
-   inside a line is free: it changes neither whether the book is accepted nor, then, any number or byte. */
+   inside a line is free: it changes neither whether the book is accepted nor, then, any number or byte. 0 trees mean that
+   the book records no measured and no small tree, and the low and the high are equal exactly then. */
 uint8_t fieldbook_total(const uint8_t *book, size_t book_length, uint8_t *sheet, size_t sheet_length,
                         uint64_t answer[FIELDBOOK_TOTAL_NUMBERS]);
 
@@ -139,7 +141,8 @@ uint8_t fieldbook_line_tariff(uint64_t sum, uint64_t number, uint64_t *answer);
 /* The mean diameter in tenths of a cm: 1 to 1,000,000 measured trees, and the sum of their classes squared. */
 uint8_t fieldbook_mean(uint64_t n, uint64_t squares, uint64_t *answer);
 
-/* The estimated trees in hundredths: measured trees or small ones, up to 1,000,000; p and q, 1 to 100,000,000. */
+/* The estimated trees in hundredths: measured trees or small ones, up to 1,000,000; p and q, 1 to 100,000,000. Here q
+   may be above p, as in no line of a book. */
 uint8_t fieldbook_trees(uint64_t n, uint64_t p, uint64_t q, uint64_t *answer);
 
 /* One tree's stem, crown and root, and all three, in milligrams of oven-dry biomass. */

@@ -62,6 +62,7 @@ pub fn some<const N: usize>(random: &mut Random, ranges: [(u64, u64); N]) -> [u6
 pub fn run(report: &mut Report) {
     tariffs(report);
     means_and_trees(report);
+    less_than_a_tree(report);
     parts(report);
     sums(report);
     square_roots(report);
@@ -180,6 +181,38 @@ fn means_and_trees(report: &mut Report) {
             TREES.agree(tally, some(&mut random, [MEASURED, AREA, AREA]));
             let [n, p, q] = [MEASURED, AREA, AREA].map(|(least, most)| random.of_any_size(most).max(least));
             TREES.agree(tally, [n, p, q]);
+        }
+    });
+}
+
+/// Plots so far above the net area that n·p/q is about half a hundredth of a tree, where the number begins to be 1, and
+/// about other halves. The greatest q of a number k has q·(2k-1) at most 200·n·p.
+fn about_halves(tally: &mut Tally, random: &mut Random, n: u64, p: u64) {
+    for k in [1, 2, 3, random.between(4, 100)] {
+        let greatest = 200 * n * p / (2 * k - 1);
+        for q in [greatest - 1, greatest, greatest + 1].into_iter().filter(|q| (p..=AREA.1).contains(q)) {
+            TREES.agree(tally, [n, p, q]);
+            let [trees, _] = proved::trees([n, p, q]).accepted();
+            tally.holds((trees >= k) == (q <= greatest), (n, p, q, trees, k));
+        }
+    }
+    TREES.agree(tally, [n, p, AREA.1]);
+}
+
+/// No line has plots above its net area, but the figure takes any areas.
+fn less_than_a_tree(report: &mut Report) {
+    report.check("trees, plots above the area: less than a tree, and about halves of a hundredth", |tally| {
+        for (n, p, trees) in [(1, 1, 0), (499_999, 1, 0), (500_000, 1, 1), (1, 499_999, 0), (1, 500_000, 1)] {
+            tally.same((n, p, AREA.1), proved::trees([n, p, AREA.1]).accepted(), [trees, 0]);
+        }
+        let mut random = Random::new(15);
+        for n in 1..=500 {
+            (1..=500).for_each(|p| about_halves(tally, &mut random, n, p));
+        }
+        for _ in 0..200_000 {
+            let n = random.of_any_size(499_999) + 1;
+            let p = random.between(1, 500_000 / n);
+            about_halves(tally, &mut random, n, p);
         }
     });
 }

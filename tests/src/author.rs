@@ -3,7 +3,7 @@ use crate::book::{Command, CLOSE, END, FACTOR, HEIGHT, MEASURED, NAMES, OPEN, SM
 use crate::random::Random;
 
 pub const CM: (u64, u64) = (7, 100);
-const AREA: (u64, u64) = (1, 100_000_000);
+pub const AREA: (u64, u64) = (1, 100_000_000);
 pub const FOUR_BYTES: (u64, u64) = (0, u32::MAX as u64);
 const CARBON: (u64, u64) = (1, u32::MAX as u64);
 const SMALL_TREES: (u64, u64) = (1, 1_000_000);
@@ -100,13 +100,27 @@ impl Author {
         [CARBON.0 + self.random.of_any_size(CARBON.1 - CARBON.0), self.random.between(SMALL_TREES.0, most)]
     }
 
-    /// Two areas in their range, with quotients of many sizes.
+    /// Two areas that a line may have, so the plots at most the net area: with quotients of many sizes, 1 and just above it
+    /// among them.
     pub fn areas(&mut self) -> [u64; 2] {
-        match self.random.between(0, 3) {
+        let any = self.random.of_any_size(AREA.1 - 2) + 1;
+        let [p, q] = match self.random.between(0, 4) {
             0 => [6, 1],
             1 => [self.random.between(1, 20), 1],
             2 => [self.random.between(1, 100_000), self.random.between(1_000, 100_000)],
-            _ => [(); 2].map(|()| self.random.of_any_size(AREA.1 - 1) + 1),
+            3 => [self.random.of_any_size(AREA.1 - 1) + 1, any],
+            _ => [any + self.random.between(0, 1), any],
+        };
+        [p.max(q), p.min(q)]
+    }
+
+    /// Two areas in their range, the plots above the net area: exchanged by mistake, or one square metre above.
+    pub fn plots_above_area(&mut self) -> [u64; 2] {
+        let [p, q] = self.areas();
+        if p > q && self.one_in(2) {
+            return [q, p];
         }
+        let p = p.min(AREA.1 - 1);
+        [p, p + 1]
     }
 }

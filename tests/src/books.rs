@@ -1,5 +1,5 @@
 //! Whole books, the same in every run.
-use crate::author::{Author, CM};
+use crate::author::{Author, AREA, CM};
 use crate::book::{self, four_bytes, Command, CLOSE, END, FACTOR, HEIGHT, MEASURED, OPEN, SMALL, SPECIES};
 use crate::library::Totalled;
 use crate::random::Random;
@@ -91,6 +91,7 @@ pub fn edges(seeds: Range<u64>) -> Vec<Vec<u8>> {
         let mut random = Random::new(seed);
         let n = random.between(1, 65_535);
         let k = random.between(1, 99);
+        let area = random.of_any_size(AREA.1 - 2) + 1;
         for over in [0, 1] {
             books.push(any_writer(seed).book(0..LINES + over as usize, random.between(0, 2)));
             books.push(one_line(seed, [1, 1], 1, 1_000_000 + over));
@@ -98,10 +99,10 @@ pub fn edges(seeds: Range<u64>) -> Vec<Vec<u8>> {
             books.push(one_line(seed, [1_000_000 * k + over, n * k], 2, n));
             books.push(one_line(seed, [1, 1], over as usize, n));
         }
-        // No tree in any line; a height tree alone; too few trees for an estimate, and just enough.
+        // No tree in any line; a height tree alone; areas about equal.
         books.push(any_writer(seed).without_small_trees().book(0..random.between(1, LINES as u64) as usize, 0));
         books.push(one_line(seed, [1, 1], 1, 0));
-        books.extend([n, 499_999, 500_000].map(|trees| one_line(seed, [1, 100_000_000], 1, trees)));
+        books.extend(about_equal(area).map(|areas| one_line(seed, areas, 1, n)));
         // The least tariff and the greatest, and one beyond each.
         books.extend([4_999_999, 5_000_000, 504_999_999, 505_000_000].map(|c1| one_tariff(seed, c1)));
         books.push(without_factor(seed));
@@ -119,19 +120,26 @@ pub fn edges_of_small_trees(seeds: Range<u64>) -> Vec<Vec<u8>> {
     seeds.flat_map(small_edges).collect()
 }
 
-/// An estimate of 1,000,000 trees, or of 1/k of a tree more; a count of 1,000,000, and one more; too few trees for an
-/// estimate, and just enough; the ends of the carbon; a second command. All these alone and beside a measured tree. And
-/// 32 lines without any measured tree.
+/// The plots as great as the net area, a square metre above it, and one below: of this area and of the greatest.
+fn about_equal(area: u64) -> [[u64; 2]; 6] {
+    let most = AREA.1;
+    [[area, area], [area, area + 1], [area + 1, area], [most, most], [most - 1, most], [most, most - 1]]
+}
+
+/// An estimate of 1,000,000 trees, or of 1/k of a tree more; a count of 1,000,000, and one more; areas about equal; the
+/// ends of the carbon; a second command. All these alone and beside a measured tree. And 32 lines without any measured
+/// tree.
 fn small_edges(seed: u64) -> Vec<Vec<u8>> {
     let mut author = Author::new(seed);
     let [carbon, n] = author.small_operands();
     let k = author.random.between(1, 99);
+    let area = author.random.of_any_size(AREA.1 - 2) + 1;
     let mut lines = Vec::new();
     for over in [0, 1] {
         lines.push(([1_000_000 * k + over, n * k], vec![[carbon, n]]));
         lines.push(([1, 1], vec![[carbon, 1_000_000 + over]]));
     }
-    lines.extend([n, 499_999, 500_000].map(|count| ([1, 100_000_000], vec![[carbon, count]])));
+    lines.extend(about_equal(area).map(|areas| (areas, vec![[carbon, n]])));
     lines.extend([0, 1, u32::MAX.into()].map(|end| ([1, 1], vec![[end, n]])));
     lines.extend([[carbon, n], [0, n], [carbon, 0]].map(|second| ([1, 1], vec![[carbon, n], second])));
     let books = lines.iter().flat_map(|(areas, small)| [0, 1].map(|n| with_small_trees(seed, *areas, n, small)));
@@ -153,6 +161,73 @@ fn refused(name: impl Into<String>, (number, at): (u8, u64), book: Vec<u8>) -> N
 
 fn comes_to(name: impl Into<String>, row: [u64; 5], [rows, trees, low, high]: [u64; 4], book: Vec<u8>) -> Named {
     Named { name: name.into(), book, answer: (0, [rows, trees, low, high, 0]), last_row: Some(row) }
+}
+
+/// Openings with areas of every kind, and what equal areas and others make of the same trees.
+pub fn areas() -> Vec<Named> {
+    let after_the_end = [(END, vec![]), opening([1, 3], [250, 5_000])];
+    let mut books = vec![refused("after the end, p 250 and q 5,000", (5, 1), written(after_the_end))];
+    books.extend(OPENINGS.into_iter().flat_map(by_areas));
+    books.extend(areas_accepted());
+    books
+}
+
+fn opening([stratum, species]: [u64; 2], [p, q]: [u64; 2]) -> Order {
+    (OPEN, vec![stratum, species, p, q])
+}
+
+/// An opening: its place, its stratum and species, and the number that it gets with good areas, 0 where it is accepted.
+/// Before it stand the listing's oak, so many empty lines of it, in the strata from 0 on, and one that is open or none.
+struct Opening {
+    name: &'static str,
+    strata: u64,
+    is_open: bool,
+    at: u64,
+    line: [u64; 2],
+    number: u8,
+}
+
+const OPENINGS: [Opening; 6] = [
+    Opening { name: "a new line", strata: 0, is_open: false, at: 21, line: [1, 3], number: 0 },
+    Opening { name: "a line is open", strata: 0, is_open: true, at: 32, line: [1, 3], number: 9 },
+    Opening { name: "species undeclared", strata: 0, is_open: false, at: 21, line: [1, 4], number: 8 },
+    Opening { name: "an id above 15", strata: 0, is_open: false, at: 21, line: [1, 16], number: 8 },
+    Opening { name: "already opened", strata: 1, is_open: false, at: 33, line: [0, 3], number: 7 },
+    Opening { name: "a 33rd line", strata: 32, is_open: false, at: 405, line: [32, 3], number: 11 },
+];
+
+/// 6 comes first, then 17, and then all that an opening gets with its areas exchanged.
+fn by_areas(Opening { name, strata, is_open, at, line, number }: Opening) -> Vec<Named> {
+    let lines = (0..strata).flat_map(|stratum| [opening([stratum, 3], [1, 1]), (CLOSE, vec![])]);
+    let open = is_open.then(|| opening([99, 3], [1, 1]));
+    let before: Vec<Order> = [oak()].into_iter().chain(lines).chain(open).collect();
+    let book = |areas| written(before.iter().cloned().chain([opening(line, areas), (CLOSE, vec![]), (END, vec![])]));
+    let named = |number, [p, q]: [u64; 2]| refused(format!("{name}, p {p} and q {q}"), (number, at), book([p, q]));
+    let outside = [[0, 1], [0, 100_000_000], [1, 100_000_001], [100_000_000, 100_000_001]].map(|areas| named(6, areas));
+    let above = [[1, 2], [250, 5_000], [5_000, 5_001], [99_999_999, 100_000_000]].map(|areas| named(17, areas));
+    let good = [[1, 1], [5_000, 250], [100_000_000, 100_000_000]].map(|areas| match number {
+        0 => comes_to(format!("{name}, areas {areas:?}"), [0; 5], [1, 0, 0, 0], book(areas)),
+        _ => named(number, areas),
+    });
+    outside.into_iter().chain(above).chain(good).collect()
+}
+
+/// 4 oaks and 289 saplings. With p = q each tree that is recorded is one; the greatest p and the q before it leave too
+/// little to add a hundredth.
+fn areas_accepted() -> Vec<Named> {
+    let both = |areas| line_of_both(areas, 4, 1_575_600, 289);
+    let as_recorded = ([26, 600, 29_300, 9_292_175_168, 9_292_175_206], [1, 29_300, 17_035_654, 17_035_655]);
+    let as_many = [[1, 1], [250, 250], [100_000_000, 100_000_000], [100_000_000, 99_999_999]];
+    let as_many = as_many.map(|areas| {
+        comes_to(format!("293 trees recorded, areas {areas:?}"), as_recorded.0, as_recorded.1, both(areas))
+    });
+    let more = [26, 600, 29_306, 9_292_364_240, 9_292_364_278];
+    let twentyfold = [26, 600, 586_000, 185_843_503_360, 185_843_504_082];
+    let above = [
+        comes_to("p a square metre above q", more, [1, 29_306, 17_036_001, 17_036_002], both([5_001, 5_000])),
+        comes_to("p 5,000 and q 250", twentyfold, [1, 586_000, 340_713_089, 340_713_091], both([5_000, 250])),
+    ];
+    as_many.into_iter().chain(above).collect()
 }
 
 /// Books of small trees.
@@ -279,18 +354,13 @@ fn of_small_trees() -> Vec<Named> {
     let with_height_tree = line_of_oaks([240_000, 1_000], [height_tree, saplings]);
     let row = [0, 0, 6_936_000, 218_567_232_000, 218_567_232_001];
     let totals = [1, 6_936_000, 400_706_592, 400_706_593];
-    let few = |carbon, count| line_of_oaks([1, 100_000_000], [small(carbon, count)]);
-    let least = ([0, 0, 1, 85_899_345, 85_899_346], [1, 1, 157_482, 157_483]);
     let one = |carbon| line_of_oaks([1, 1], [small(carbon, 1)]);
     let greatest = ([0, 0, 100, 8_589_934_590, 8_589_934_591], [1, 100, 15_748_213, 15_748_214]);
     let next_line = [small(3_000_000, 1), (CLOSE, vec![]), (OPEN, vec![2, 3, 1, 1])];
     vec![
         comes_to("no factor and no height tree", row, totals, alone),
         comes_to("a height tree and no measured tree", row, totals, with_height_tree),
-        comes_to("number 0 of 1", [0; 5], [1, 0, 0, 0], few(MOST, 1)),
-        comes_to("number 0 of 499,999", [0; 5], [1, 0, 0, 0], few(MOST, 499_999)),
-        comes_to("number 1 of 500,000", least.0, least.1, few(MOST, 500_000)),
-        comes_to("less than a mg", [0, 0, 1, 0, 1], [1, 1, 0, 1], few(1, 500_000)),
+        comes_to("less than a g", [0, 0, 100, 2, 3], [1, 100, 0, 1], one(1)),
         comes_to(
             "whole mg, nothing dropped",
             [0, 0, 100, 6_000_000, 6_000_001],
@@ -306,13 +376,10 @@ fn of_small_trees() -> Vec<Named> {
 fn of_both_sorts() -> Vec<Named> {
     let row = [26, 600, 175_800, 55_753_051_008, 55_753_051_226];
     let totals = [1, 175_800, 102_213_926, 102_213_928];
-    let few = |count| line_of_both([1, 100_000_000], 1, 50, count);
-    let apart = ([26, 600, 2, 20_953_695, 20_953_698], [1, 2, 38_415, 38_416]);
+    let apart = ([26, 600, 802, 8_402_432_455, 8_402_432_494], [1, 802, 15_404_459, 15_404_460]);
     vec![
         comes_to("the listing's line with saplings", row, totals, line_of_both([6, 1], 4, 1_575_600, 289)),
-        comes_to("both numbers 0", [26, 600, 0, 0, 0], [1, 0, 0, 0], few(1)),
-        comes_to("the measured number 0", [26, 600, 1, 1, 2], [1, 1, 0, 1], few(500_000)),
-        comes_to("both numbers 1", apart.0, apart.1, line_of_both([1, 400], 4, 49, 4)),
+        comes_to("both numbers 401", apart.0, apart.1, line_of_both([401, 400], 4, 49, 4)),
     ]
 }
 
@@ -359,13 +426,14 @@ pub fn opened_again() -> Vec<(u8, Vec<u8>)> {
     books
 }
 
-/// Some 1,600 books: accepted, damaged, by chance, at the limits, of small trees, and with a line that is opened again.
+/// Some 1,700 books: accepted, damaged, by chance, at the limits, of small trees, with areas of every kind, and with a
+/// line that is opened again.
 pub fn of_every_kind() -> Vec<Vec<u8>> {
     let seeds = 5_000_000..5_000_300;
     let books = seeds.flat_map(|seed| [accepted, damaged, by_chance].map(|book| book(seed)));
-    let small_trees = small_trees().into_iter().map(|named| named.book);
+    let by_hand = small_trees().into_iter().chain(areas()).map(|named| named.book);
     let opened_again = opened_again().into_iter().map(|(_, book)| book);
-    books.chain(edges(0..8)).chain(edges_of_small_trees(0..8)).chain(small_trees).chain(opened_again).collect()
+    books.chain(edges(0..8)).chain(edges_of_small_trees(0..8)).chain(by_hand).chain(opened_again).collect()
 }
 
 /// Books of about the most bytes that a book may have, and over: accepted, refused at the last byte or at the first.
@@ -648,13 +716,12 @@ impl Writer {
         }
     }
 
-    /// Areas by which so many trees are not too many. Equal ones leave no remainder of small trees, so with those they are
-    /// not always equal.
+    /// Areas by which so many trees are not too many. Equal ones leave no remainder, so they are not always equal.
     fn areas(&mut self, n: u64) -> [u64; 2] {
         let [p, q] = self.author.areas();
         match steps::trees([n, p, q]) {
             Ok(0..=100_000_000) => [p, q],
-            _ if self.small_trees && self.author.one_in(2) => [self.author.random.between(1, 999), 999],
+            _ if self.author.one_in(2) => [self.author.random.between(999, AREA.1.min(999 * 1_000_000 / n)), 999],
             _ => [1, 1],
         }
     }

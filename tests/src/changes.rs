@@ -1,8 +1,9 @@
 //! Books for the fuzz run: accepted ones with changes by chance, most of them to whole commands, so that they get far.
 use crate::author::Author;
+use crate::book::{self, OPEN};
 use crate::random::Random;
 use crate::total::{total, LEAST_SHEET};
-use crate::{book, books, order, streams};
+use crate::{books, order, streams};
 use std::ops::Range;
 
 /// Accepted books to begin with: of a few lines, at the limits of document 01, and at those of small trees.
@@ -101,7 +102,7 @@ impl<'a> Changer<'a> {
     }
 
     fn change(&mut self) {
-        match self.author.random.between(0, 12) {
+        match self.author.random.between(0, 13) {
             0..=4 => self.change_operand(),
             5 => self.repeat(),
             6 => self.remove(),
@@ -110,6 +111,7 @@ impl<'a> Changer<'a> {
             9 => self.damage(),
             10 => self.cut(),
             11 => self.splice(),
+            12 => self.change_areas(),
             _ => self.append(),
         }
     }
@@ -123,6 +125,19 @@ impl<'a> Changer<'a> {
             author.one_of(&[least.wrapping_sub(1), least, any, any, most, most + 1])
         });
         self.author.stream[place].copy_from_slice(&command.bytes());
+    }
+
+    /// The areas of an opening: others that a line may have, or such that the plots are above the net area.
+    fn change_areas(&mut self) {
+        let Some(command) = self.any_command() else { return };
+        let book = self.book();
+        let mut openings = self.commands.iter().filter(|place| book[place.start] == OPEN);
+        let Some(areas) = openings.rfind(|place| place.start <= command.start).map(|place| place.end - 8..place.end)
+        else {
+            return;
+        };
+        let others = if self.author.one_in(2) { self.author.areas() } else { self.author.plots_above_area() };
+        self.author.stream[areas].copy_from_slice(&book::spelt(&[4, 4], &others));
     }
 
     /// Moves what was appended, from a place on, to another place.

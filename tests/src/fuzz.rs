@@ -8,7 +8,7 @@ use crate::program::{first_difference, Hex};
 use crate::random::Random;
 use crate::report::{Report, Tally};
 use crate::total::{LEAST_SHEET, ROW};
-use crate::{cores, met, orders, plain, streams};
+use crate::{cores, met, orders, plain, recorded, streams};
 use std::fmt::{Debug, Display, Formatter};
 use std::ops::Range;
 use std::panic::{catch_unwind, AssertUnwindSafe};
@@ -51,22 +51,24 @@ pub fn alone(seed: u64, seconds: u64) -> bool {
     tally.is_good()
 }
 
-/// What a run has met: the answers to its books, and the books that it had in two orders.
+/// What a run has met: the answers to its books, what accepted ones record, and the books that it had in two orders.
 #[derive(Default)]
 struct Met {
     answers: met::Met,
+    recorded: recorded::Met,
     pairs: orders::Met,
 }
 
 impl Display for Met {
     fn fmt(&self, f: &mut Formatter) -> std::fmt::Result {
-        write!(f, "{}; {}", self.answers, self.pairs)
+        write!(f, "{}; {}; {}", self.answers, self.recorded, self.pairs)
     }
 }
 
-fn every_answer_was_met(tally: &mut Tally, Met { answers, pairs }: &Met) {
+fn every_answer_was_met(tally: &mut Tally, Met { answers, recorded, pairs }: &Met) {
     tally.same("answers that were never met", answers.missing(), vec![]);
     tally.same("answers that totalling does not have", answers.others(), vec![]);
+    tally.holds(recorded.often(1), (recorded.to_string(), "a kind of accepted book was never met"));
     tally.same("pairs that were never met", pairs.missing(), vec![]);
 }
 
@@ -98,6 +100,7 @@ fn fuzz(seed: u64, books: u64, time: Duration) -> (Tally, Met) {
     for (tally, met) in shares {
         all.0.add(tally);
         all.1.answers.add(met.answers);
+        all.1.recorded.add(met.recorded);
         all.1.pairs.add(met.pairs);
     }
     all
@@ -161,6 +164,7 @@ impl<'a> Worker<'a> {
         let answer = lent.with_sheet(case.book, total);
         let (number, [.., at]) = compare_totals(&mut self.tally, &case, &lent, &answer);
         self.met.answers.count(case.book, number, at as usize);
+        self.met.recorded.hold(&mut self.tally, &case, case.book, &answer.0);
         for at in places {
             same_reading(&mut self.tally, &case, case.book, at);
         }

@@ -287,8 +287,8 @@ fn of_the_crate(report: &mut Report) {
             };
             tally.same(Hex(&book), told, total(&book, &mut [0; LEAST_SHEET]));
         }
-        let words: BTreeSet<String> = (1..=16).map(|number| Refusal(number).to_string()).collect();
-        tally.same("different words", words.len(), 16);
+        let words: BTreeSet<String> = (1..=17).map(|number| Refusal(number).to_string()).collect();
+        tally.same("different words", words.len(), 17);
         tally.holds(!words.contains(&Refusal(0).to_string()), "a refusal without words");
     });
 }

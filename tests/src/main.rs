@@ -27,6 +27,7 @@ mod program;
 mod protocol;
 mod proved;
 mod random;
+mod recorded;
 mod replay;
 mod report;
 mod steps;

@@ -12,7 +12,7 @@ const WITH_SMALL: &str = "small";
 
 /// The refusals of totalling, each with the commands that get it: all but 4, which is for writing. "" stands for no
 /// command: none is there for 1 and 2, any byte gets 5, and 16 is about the sheet.
-pub const NAMED: [(u8, &[&str]); 15] = [
+pub const NAMED: [(u8, &[&str]); 16] = [
     (1, &[""]),
     (2, &[""]),
     (3, &WITH_OPERANDS),
@@ -28,6 +28,7 @@ pub const NAMED: [(u8, &[&str]); 15] = [
     (14, &["close"]),
     (15, &["close", UNMEASURED]),
     (16, &[""]),
+    (17, &["open"]),
 ];
 
 /// How often each answer was met, by the number of the refusal, 0 for none, and the command.

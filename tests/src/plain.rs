@@ -22,6 +22,7 @@ const TARIFF: Refusal = 13;
 const NO_FACTOR: Refusal = 14;
 const TOO_MANY_TREES: Refusal = 15;
 const SHORT_SHEET: Refusal = 16;
+const PLOTS_ABOVE_AREA: Refusal = 17;
 
 const ROW: usize = 25;
 const LINES: usize = 32;
@@ -323,6 +324,7 @@ impl Survey {
         let [p, q] = [[p0, p1, p2, p3], [q0, q1, q2, q3]].map(u32::from_be_bytes);
         within(1, p.into(), 100_000_000)?;
         within(1, q.into(), 100_000_000)?;
+        decline(p < q, PLOTS_ABOVE_AREA)?;
         decline(self.open.is_some(), LINE_OPEN)?;
         let species = self.species.get(usize::from(id)).copied().flatten().ok_or(UNDECLARED)?;
         let same = |row: &Row| (row.stratum, row.species) == (stratum, id);

@@ -1,5 +1,5 @@
 //! What the program `replay` is to print for a stream of commands, by the book and the survey of these tests.
-use crate::book::{self, four_bytes, Command, CLOSE, END, SPECIES};
+use crate::book::{self, four_bytes, Command, CLOSE, END, OPEN, SPECIES};
 use crate::met::UNMEASURED;
 use crate::survey::{Line, Species, Survey};
 use std::collections::BTreeMap;
@@ -9,6 +9,8 @@ pub enum Operation {
     Reading,
     Writing,
     Applying,
+    /// Applying an opening whose plots are above its net area, with the two exchanged: what else stands in its way.
+    Exchanging,
 }
 
 /// How often each answer was met: by the operation, the command's name ("" where there is no command) and the number of
@@ -74,6 +76,7 @@ impl Play {
         self.meets(Operation::Reading, name, 0);
         self.meets(Operation::Writing, name, answers[0]);
         self.meets(Operation::Applying, if unmeasured { UNMEASURED } else { name }, answers[1]);
+        self.exchange_areas(command);
         let after = written.unwrap_or(0);
         let digests = [digest(|d| d.bytes(&buffer)), digest(|d| d.survey(&self.survey))];
         self.go_on(next, command.byte == END);
@@ -89,6 +92,17 @@ impl Play {
         }
         self.after_end = is_end && !over;
         self.at = next;
+    }
+
+    /// Counts what an opening whose plots are above its net area would be answered with the two exchanged.
+    fn exchange_areas(&mut self, command: &Command) {
+        match (command.byte, &command.operands[..]) {
+            (OPEN, &[stratum, species, p, q]) if p < q && !self.survey.ended => {
+                let answer = self.survey.may_open(stratum, species, [q, p]);
+                self.meets(Operation::Exchanging, book::name(Some(&OPEN)), refusal(&answer));
+            }
+            _ => {}
+        }
     }
 
     fn meets(&mut self, operation: Operation, name: &'static str, number: u64) {

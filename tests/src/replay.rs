@@ -2,7 +2,7 @@
 //! survey of these tests, line by line.
 use crate::book;
 use crate::met::UNMEASURED;
-use crate::play::Operation::{self, Applying, Reading, Writing};
+use crate::play::Operation::{self, Applying, Exchanging, Reading, Writing};
 use crate::play::{Met, Play};
 use crate::program::{self, Hex};
 use crate::random::Random;
@@ -15,14 +15,16 @@ use std::iter;
 /// How often a run is to meet each answer at least.
 const OFTEN: u64 = 100;
 
-/// What the papers have each operation answer to each command: 0 for no refusal, and the numbers of the refusals.
-const NAMED: [(Operation, &[&str], &[u64]); 12] = [
+/// What the papers have each operation answer to each command: 0 for no refusal, and the numbers of the refusals. With
+/// its areas exchanged, an opening that got 17 gets what comes after, and one that got 6 gets 6 again.
+const NAMED: [(Operation, &[&str], &[u64]); 13] = [
     (Reading, &[""], &[1, 2]),
     (Reading, &book::WITH_OPERANDS, &[0, 3]),
     (Reading, &["close", "end"], &[0]),
     (Writing, &book::NAMES, &[0, 4]),
     (Applying, &["species", "factor"], &[0, 5, 6, 7]),
-    (Applying, &["open"], &[0, 5, 6, 9, 8, 7, 11]),
+    (Applying, &["open"], &[0, 5, 6, 17, 9, 8, 7, 11]),
+    (Exchanging, &["open"], &[0, 6, 9, 8, 7, 11]),
     (Applying, &["measured"], &[0, 5, 10, 6, 11]),
     (Applying, &["height"], &[0, 5, 10, 6, 13, 11]),
     (Applying, &["close"], &[0, 5, 10, 12, 14, 15]),

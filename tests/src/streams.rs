@@ -156,8 +156,10 @@ impl Author {
     /// A line, which may lack what it needs to close, and may get it after the first try.
     fn line(&mut self, id: u64, classes: (u64, u64)) {
         let stratum = self.random.between(0, 4);
+        self.maybe_above(stratum, id);
         let [p, q] = self.areas();
         self.say(OPEN, &[stratum, id, p, q]);
+        self.maybe_above(stratum, id);
         let small = self.one_of(&[0, 0, 1, 1, 2]);
         let early = self.random.between(0, small);
         self.small_trees(early);
@@ -174,6 +176,14 @@ impl Author {
         if self.one_in(3) {
             self.height();
             self.say(CLOSE, &[]);
+        }
+    }
+
+    /// The opening of a line, now and then, with plots above its net area.
+    fn maybe_above(&mut self, stratum: u64, id: u64) {
+        if self.one_in(6) {
+            let [p, q] = self.plots_above_area();
+            self.put(OPEN, &[stratum, id, p, q]);
         }
     }
 
@@ -198,10 +208,12 @@ impl Author {
         for stratum in 0..self.random.between(33, 37) {
             self.line_of_oaks(&[stratum, id, 1, 1]);
         }
-        // A line that was there, one of no species, and a new one.
-        self.put(OPEN, &[0, id, 1, 1]);
-        self.put(OPEN, &[0, 16, 1, 1]);
-        self.put(OPEN, &[255, id, 1, 1]);
+        // A line that was there, one of no species, and a new one; then each with plots above its net area.
+        for q in [1, 2] {
+            self.put(OPEN, &[0, id, 1, q]);
+            self.put(OPEN, &[0, 16, 1, q]);
+            self.put(OPEN, &[255, id, 1, q]);
+        }
     }
 
     /// A line without measured trees, or with four; some have small trees.
@@ -218,18 +230,19 @@ impl Author {
     }
 
     /// Lines of so many species, which take turns, in one stratum after the other. After each line every line so far is
-    /// opened again. The last one, a 33rd, is refused the first time too.
+    /// opened again, also with plots above its net area. The last one, a 33rd, is refused the first time too.
     fn every_line_again(&mut self, species: u64) {
         for id in 0..species {
             let operands = self.species_operands(id, protocol::tariff()[0].map(four_bytes));
             self.put(SPECIES, &operands);
         }
         self.put(FACTOR, &[60, 101]);
-        let opening = |i| [i / species, i % species, 1, 1];
+        let opening = |i, q| [i / species, i % species, 1, q];
         for last in 0..=32 {
-            self.line_of_oaks(&opening(last));
+            self.line_of_oaks(&opening(last, 1));
             for i in 0..=last {
-                self.put(OPEN, &opening(i));
+                self.put(OPEN, &opening(i, 1));
+                self.put(OPEN, &opening(i, 2));
             }
         }
         self.end();

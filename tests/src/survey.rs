@@ -14,6 +14,7 @@ const OVER_THE_LIMIT: u64 = 11;
 const NO_HEIGHT_TREE: u64 = 12;
 const NO_FACTOR: u64 = 14;
 const TOO_MANY_TREES: u64 = 15;
+const PLOTS_ABOVE_AREA: u64 = 17;
 
 type Applied = Result<(), u64>;
 
@@ -135,13 +136,19 @@ impl Survey {
         Ok(())
     }
 
-    fn start(&mut self, stratum: u64, species: u64, areas: [u64; 2]) -> Applied {
-        areas.iter().try_for_each(|&area| within(1, area, 100_000_000))?;
+    /// Whether a line may be opened now, of a book that has not ended.
+    pub fn may_open(&self, stratum: u64, species: u64, [p, q]: [u64; 2]) -> Applied {
+        [p, q].iter().try_for_each(|&area| within(1, area, 100_000_000))?;
+        decline(q > p, PLOTS_ABOVE_AREA)?;
         decline(self.open, LINE_OPEN)?;
         decline(!self.species.contains_key(&species), UNDECLARED)?;
         let same = |line: &Line| (line.stratum, line.species) == (stratum, species);
         decline(self.lines.iter().any(same), ALREADY_GIVEN)?;
-        decline(self.lines.len() >= 32, OVER_THE_LIMIT)?;
+        decline(self.lines.len() >= 32, OVER_THE_LIMIT)
+    }
+
+    fn start(&mut self, stratum: u64, species: u64, areas: [u64; 2]) -> Applied {
+        self.may_open(stratum, species, areas)?;
         self.lines.push(Line { stratum, species, areas, ..Line::default() });
         self.open = true;
         Ok(())

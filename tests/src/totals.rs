@@ -6,6 +6,7 @@ use crate::exact::Exact;
 use crate::library::{self, Totalled, MARGIN};
 use crate::met::{self, NAMED};
 use crate::program::{first_difference, Hex};
+use crate::recorded;
 use crate::report::{Report, Tally};
 use crate::total::{row_numbers, total, Refused, Totals, LEAST_SHEET, ROW};
 use crate::{books, cores, plain};
@@ -80,19 +81,21 @@ fn numbers(totalled: &Result<Totals, Refused>) -> Totalled {
     }
 }
 
-/// What was met: each answer, and how many accepted books have estimated trees, a line of small trees alone, and a line
-/// of both sorts.
+/// What was met: each answer; how many accepted books have estimated trees, a line of small trees alone, and a line of
+/// both sorts; and what they record.
 #[derive(Default)]
 pub struct Met {
     answers: met::Met,
     with_trees: u64,
     small_alone: u64,
     both_sorts: u64,
+    recorded: recorded::Met,
 }
 
 pub fn run(report: &mut Report) {
     listing(report);
-    small_trees(report);
+    by_hand(report, "small trees", 407, books::small_trees());
+    by_hand(report, "areas", 409, books::areas());
     opened_again(report);
     let mut met = Met::default();
     let mut check = |name: &str, cases: Vec<Case>| {
@@ -108,6 +111,7 @@ pub fn run(report: &mut Report) {
     check("books cut short at every length", cases(405, (600..620).flat_map(books::cut_short), Some(60)));
     check("sheets of every length", sheets());
     answers_met(report, &met);
+    recorded_met(report, &met.recorded);
 }
 
 /// A case for each book. One sheet in so many is too short, or none.
@@ -132,7 +136,8 @@ fn sheets() -> Vec<Case> {
     lengths.flat_map(|length| books.clone().map(|book| Case { length, seed: length as u8, book })).collect()
 }
 
-/// Totals every book by the library and twice here, and holds the library's figures to the exact value.
+/// Totals every book by the library and twice here, and holds the library's figures to the exact value and to the trees
+/// that the book records.
 pub fn compare(tally: &mut Tally, cases: &[Case], met: &mut Met) {
     for chunk in cases.chunks(CHUNK) {
         let all = cores::each(chunk, |case| (case, case.library(), case.plain(), case.total()));
@@ -140,6 +145,7 @@ pub fn compare(tally: &mut Tally, cases: &[Case], met: &mut Met) {
             case.compare(tally, &answer, "total.rs", &expected);
             case.compare(tally, &answer, "plain.rs", &plain);
             met.add(&case.book, &totalled);
+            met.recorded.hold(tally, Hex(&case.book), &case.book, &answer.0);
             // Where only one of the two accepts, the comparison above has said so.
             let (number, [_, _, low, high, _]) = answer.0;
             if let (0, Ok(totals)) = (number, totalled) {
@@ -182,7 +188,7 @@ fn exact(Totals { survey, .. }: &Totals) -> Exact {
 /// estimated trees, and one in ten has a line of small trees alone, and one of both sorts.
 fn answers_met(report: &mut Report, met: &Met) {
     report.check("totals, every refusal of documents 01 and 02 was met, and no other", |tally| {
-        let Met { answers, with_trees, small_alone, both_sorts } = met;
+        let Met { answers, with_trees, small_alone, both_sorts, .. } = met;
         for (number, names) in NAMED {
             let times: Vec<_> = names.iter().map(|name| answers.times(number, name)).collect();
             tally.holds(times.iter().sum::<u64>() >= OFTEN && !times.contains(&0), (number, names, times));
@@ -198,6 +204,15 @@ fn answers_met(report: &mut Report, met: &Met) {
     });
 }
 
+/// The figures of every accepted book were held to the trees that it records: of many that record none, of many that count
+/// all in full, and of many others.
+fn recorded_met(report: &mut Report, met: &recorded::Met) {
+    report.check("totals, accepted books of every kind were held to the trees that they record", |tally| {
+        tally.holds(met.often(OFTEN), met.to_string());
+        tally.remark = format!(", of {met}");
+    });
+}
+
 /// The listing of document 01, and a sheet that is too short for it, which stays as it was.
 fn listing(report: &mut Report) {
     report.check("totals, the listing of document 01", |tally| {
@@ -210,11 +225,10 @@ fn listing(report: &mut Report) {
     });
 }
 
-/// Books of small trees, each with its name and with what it comes to.
-fn small_trees(report: &mut Report) {
-    report.check("totals, small trees that are worked out by hand", |tally| {
-        let named = books::small_trees();
-        let cases = cases(407, named.iter().map(|named| named.book.clone()), None);
+/// Books that are worked out by hand, each with its name and with what it comes to.
+fn by_hand(report: &mut Report, kind: &str, seed: u64, named: Vec<Named>) {
+    report.check(&format!("totals, {kind} that are worked out by hand"), |tally| {
+        let cases = cases(seed, named.iter().map(|named| named.book.clone()), None);
         for (case, Named { name, answer, last_row, .. }) in cases.iter().zip(&named) {
             let (answered, bytes) = case.library();
             tally.same((name, Hex(&case.book)), answered, *answer);

@@ -13,8 +13,10 @@ pub const SHEET: usize = 32 * ROW;
 pub struct Totals {
     /// How many rows stand in the sheet.
     pub rows: usize,
-    /// The estimated trees of all rows, measured and small, in hundredths.
+    /// The estimated trees of all rows, measured and small, in hundredths. 0 means that the book records no measured
+    /// and no small tree.
     pub trees: u64,
+    /// The low and the high are equal exactly where the book records no measured and no small tree.
     pub carbon: Range<Grams>,
 }
 
@@ -35,6 +37,17 @@ pub struct Row {
 /// Totals a book into a sheet of [`SHEET`] bytes or more: the rows stand from its first byte on, and no other bytes
 /// change. Where the book is refused, the sheet is as it was. The order of 04, 05 and 08 inside a line is free: it changes
 /// neither whether the book is accepted nor, then, any number or byte.
+///
+/// ```
+/// use fieldbook::{total, write, Command, Refusal, SHEET};
+///
+/// // Plots of 5,000 square metres in a wood of 250: the two areas are exchanged.
+/// let mut book = [0; 11];
+/// write(&mut book, 0, Command::Open { stratum: 1, species: 3, p: 250, q: 5_000 })?;
+/// let refused = total(&book, &mut [0; SHEET]).unwrap_err();
+/// assert_eq!((refused.number, refused.at), (Refusal::PLOTS_ABOVE_AREA, 0));
+/// # Ok::<(), Refusal>(())
+/// ```
 pub fn total(book: &[u8], sheet: &mut [u8]) -> Result<Totals, Refused> {
     let mut answer = [0; 5];
     let number = boundary::total(book, sheet, &mut answer);

@@ -13,7 +13,7 @@ pub enum Command {
     Species(u8, Species),
     /// Total over merchantable stem volume, in hundredths, at a diameter.
     Factor { cm: u8, factor: u8 },
-    /// Opens a line. Of plots, p is the net area and q the plot area.
+    /// Opens a line. Of plots, p is the net area and q the plot area, which is at most p.
     Open { stratum: u8, species: u8, p: u32, q: u32 },
     /// So many measured trees of a class in cm.
     Measured { class: u8, count: u16 },

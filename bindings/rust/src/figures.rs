@@ -71,7 +71,8 @@ pub fn mean(n: u64, squares: u64) -> Result<u64, Refusal> {
     count(|answer| boundary::mean(n, squares, answer))
 }
 
-/// The estimated trees in hundredths: measured trees or small ones, up to 1,000,000; p and q, 1 to 100,000,000.
+/// The estimated trees in hundredths: measured trees or small ones, up to 1,000,000; p and q, 1 to 100,000,000. Here q
+/// may be above p, as in no line of a book.
 pub fn trees(n: u64, p: u64, q: u64) -> Result<u64, Refusal> {
     count(|answer| boundary::trees(n, p, q, answer))
 }

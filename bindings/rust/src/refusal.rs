@@ -1,7 +1,7 @@
 use std::error::Error;
 use std::fmt::{Display, Formatter};
 
-/// Why something was refused: document 01's number of the refusal, from 1 to 16.
+/// Why something was refused: its number in documents 01 and 02, from 1 to 17.
 #[derive(Clone, Copy, PartialEq, Eq, PartialOrd, Ord, Hash, Debug)]
 pub struct Refusal(pub u8);
 
@@ -22,6 +22,7 @@ impl Refusal {
     pub const NO_FACTOR: Refusal = Refusal(14);
     pub const TOO_MANY_TREES: Refusal = Refusal(15);
     pub const SHORT_SHEET: Refusal = Refusal(16);
+    pub const PLOTS_ABOVE_AREA: Refusal = Refusal(17);
 
     /// What a number of the library says: 0 is no refusal.
     pub(crate) fn unless_accepted(number: u8) -> Result<(), Refusal> {
@@ -54,6 +55,7 @@ impl Refusal {
             Refusal::NO_FACTOR => "no factor for the line's mean diameter",
             Refusal::TOO_MANY_TREES => "more than 1,000,000 estimated trees of one sort, measured or small",
             Refusal::SHORT_SHEET => "the sheet has fewer than 800 bytes",
+            Refusal::PLOTS_ABOVE_AREA => "the plots' area is above the net area: are the two exchanged?",
             Refusal(_) => "no refusal has this number",
         }
     }

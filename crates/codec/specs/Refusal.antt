@@ -1,7 +1,7 @@
--- "What each operation may decline": document 01's number for each refusal of the code.
+-- "What each operation may decline": the number of each refusal of the code, in documents 01 and 02.
 use Rattle.std.specs.Prelude.{ℕ}
 use Rattle.codec.specs.declared.refusal.Refusal.{Refusal}
-use Rattle.codec.specs.declared.refusal.Refusal.TheVariants.{AtEnd, UnknownByte, CutShort, NoRoom, Ended, Operand, AlreadyGiven, Undeclared, LineOpen, NoLine, Limit, NoHeightTree, Tariff, NoFactor, TooManyTrees, ShortSheet}
+use Rattle.codec.specs.declared.refusal.Refusal.TheVariants.{AtEnd, UnknownByte, CutShort, NoRoom, Ended, Operand, AlreadyGiven, Undeclared, LineOpen, NoLine, Limit, NoHeightTree, Tariff, NoFactor, TooManyTrees, ShortSheet, PlotsAboveArea}
 
 abbrev pub number : Refusal → ℕ
 -- "Reading one command at a place: 1 the place is at or past the end; 2 unknown byte; 3 operands cut short."
@@ -27,3 +27,5 @@ number NoFactor = 14
 number TooManyTrees = 15
 -- "Totalling a book into a sheet: 16 sheet under 800 bytes"
 number ShortSheet = 16
+-- "17: q above p, after 6 and before 9" (document 02, Q-4)
+number PlotsAboveArea = 17

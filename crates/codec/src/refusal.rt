@@ -1,4 +1,4 @@
-// Why an operation declines. specs/Refusal.antt gives document 01's number for each case.
+// Why an operation declines. specs/Refusal.antt gives the number of each case in documents 01 and 02.
 ghost use Rattle.std.specs.Prelude.{◌≡◌};
 ghost use Rattle.biomass.specs.Report.{refusal_number};
 ghost use Rattle.codec.specs.Refusal.{number};
@@ -37,10 +37,12 @@ pub enum Refusal {
     TooManyTrees = 15,
     // Totalling: the sheet has too few bytes.
     ShortSheet = 16,
+    // The plots' area is above the net area.
+    PlotsAboveArea = 17,
 }
 
 impl Refusal {
-    // Document 01's number of the refusal.
+    // The refusal's number in documents 01 and 02.
     pub fn number(self) -> u8
         ensures { result ≡ number self }
     {

@@ -1,5 +1,6 @@
--- How answers and refusals are laid out for programs in other languages. Every function that refuses anything answers 0 or document 01's number of the refusal
--- (Law: zero_is_totalled and the like: 0 is told of no refusal). What it found is put into the numbers that the caller lends, and where it is refused they are 0.
+-- How answers and refusals are laid out for programs in other languages. Every function that refuses anything answers 0 or the refusal's number in
+-- documents 01 and 02 (Law: zero_is_totalled and the like: 0 is told of no refusal). What it found is put into the numbers that the caller lends, and where it is
+-- refused they are 0.
 use Rattle.std.specs.Prelude.{ℕ, zero, suc, List, [], ◌∷◌, get_or, replicate}
 use Rattle.biomass.specs.Report.{Report, refused, gives, ◌then◌}
 use Rattle.biomass.specs.Units.{BiomassRange, CarbonRange}

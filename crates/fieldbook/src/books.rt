@@ -3,6 +3,7 @@ ghost use Rattle.std.specs.Prelude.{◌≡◌, replicate};
 ghost use Rattle.survey.specs.Sheet.{find_row};
 ghost use Rattle.survey.specs.Total.{total, sheet_after};
 ghost use Rattle.survey.specs.Demand3.{Demanded};
+ghost use Rattle.survey.specs.Recorded.{AsRecorded};
 ghost use Rattle.fieldbook.specs.Layout.{refusal, book_refusal, totals, answered, found_row, row_numbers};
 
 use super::layout::{Laid, lay};
@@ -19,6 +20,7 @@ pub extern "C" fn fieldbook_total(book: &[u8], sheet: &mut [u8], answer: &mut [u
     ensures answer { answer.new ≡ totals (total book.now sheet.old) }
     ensures stored { sheet.new ≡ sheet_after book.now sheet.old }
     ensures demand3 { Demanded book.now (answered result answer.new) }
+    ensures recorded { AsRecorded book.now (answered result answer.new) }
 {
     match total(book, sheet) {
         Ok(t) => {

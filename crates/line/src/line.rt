@@ -43,7 +43,7 @@ pub struct Heights {
 }
 
 // Small trees: the carbon of one in mg, and how many; a count of 0: none are given. No `Option`: step 3 makes 0 of a count of 0, and
-// may of another, so that the row asks for the number 0 in any case.
+// of another where the plots are far above the net area, as in no line that a book opens; so the row asks for the number 0 in any case.
 #[derive(Clone, Copy, Default)]
 pub struct SmallTrees {
     pub carbon: u64,

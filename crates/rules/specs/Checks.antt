@@ -1,9 +1,9 @@
--- "What each operation may decline", of a declaration, an opening and the end: the checks in document 01's order, each over the values that it looks at. Those of
--- the open line's own commands and of a closing are survey/specs/Survey.antt.
-use Rattle.std.specs.Prelude.{ℕ, Bool, false, cond, List, Option, leb, eqb, ◌&&◌}
+-- "What each operation may decline", of a declaration, an opening and the end: the checks in the order of documents 01 and 02, each over the values that it
+-- looks at. Those of the open line's own commands and of a closing are survey/specs/Survey.antt.
+use Rattle.std.specs.Prelude.{ℕ, Bool, false, cond, List, Option, leb, ltb, eqb, ◌&&◌}
 use Rattle.std.specs.List.{list_any}
 use Rattle.biomass.specs.Whole.{inside}
-use Rattle.biomass.specs.Report.{Report, unless, when, ◌then◌, given}
+use Rattle.biomass.specs.Report.{Report, gives, unless, when, ◌then◌, given}
 use Rattle.biomass.specs.Limits.{greatest_area}
 use Rattle.codec.specs.declared.command.Species.{Species}
 use Rattle.line.specs.declared.row.Row.{Row}
@@ -42,16 +42,18 @@ any_line stratum id rows = list_any (is_line stratum id) rows
 abbrev pub areas_in_range : ℕ → ℕ → Bool
 areas_in_range p q = cond (inside 1 p greatest_area) (inside 1 q greatest_area) false
 
--- "Opening: 6; 9 a line is open; 8 species undeclared, an id above 15 included; 7 same stratum and species already opened; 11 32 lines opened." `there`: what the
--- species was declared with, where it was
-abbrev pub opening : {A : Type 0} → ℕ → ℕ → Bool → Option Species → Bool → ℕ → (Species → Report A) → Report A
-opening p q is_open there before closed next =
+-- "Opening: 6; 9 a line is open; 8 species undeclared, an id above 15 included; 7 same stratum and species already opened; 11 32 lines opened." "Opening a
+-- line now tests that p is at least q. .. (17: q above p, after 6 and before 9.)" (Document 02, Q-4.) `there`: what the species was declared with, where it
+-- was; with it the line is opened
+abbrev pub opening : ℕ → ℕ → Bool → Option Species → Bool → ℕ → Report Species
+opening p q is_open there before closed =
     unless (areas_in_range p q) 6
+    (when (ltb p q) 17
     (when is_open 9
     (given there 8 then λ x.
     when before 7
     (when (leb most_lines closed) 11
-    (next x))))
+    (gives x)))))
 
 -- "Ending: 9."
 abbrev pub ending : {A : Type 0} → Bool → Report A → Report A

@@ -1,4 +1,4 @@
-// What a declaration, a factor, an opening and the end decline, in document 01's order, by the values that they look at of a
+// What a declaration, a factor, an opening and the end decline, in the papers' order, by the values that they look at of a
 // survey. What a line's own commands decline stands with the line.
 ghost use Rattle.std.specs.Prelude.{◌≡◌, ◌≤◌, IfOk, is_some};
 ghost use Rattle.biomass.specs.Report.{report, gives};
@@ -55,8 +55,8 @@ pub fn giving(cm: u8, factor: u8, there: Option<u8>) -> Result<(), Refusal>
     Ok(())
 }
 
-// 03: a line opened, by whether one is open, what stands at its species' id, whether it was closed before, and how many were:
-// the species that it is opened with.
+// 03: a line opened, by its areas, whether one is open, what stands at its species' id, whether it was closed before, and how many
+// were: the species that it is opened with.
 pub fn opening(
     p: u32,
     q: u32,
@@ -65,10 +65,14 @@ pub fn opening(
     before: bool,
     closed: usize,
 ) -> Result<Species, Refusal>
-    ensures { report number result ≡ opening p q is_open there before closed gives }
+    ensures { report number result ≡ opening p q is_open there before closed }
 {
     if !areas_in_range(p, q) {
         return Err(Refusal::Operand);
+    }
+    // Most often the two are exchanged, and hardly a tree would be estimated.
+    if p < q {
+        return Err(Refusal::PlotsAboveArea);
     }
     if is_open {
         return Err(Refusal::LineOpen);

@@ -7,13 +7,13 @@
 --     Reach: read_all_reach, reach_of_list    reading it whole answers the same; a list's encoding reads to its end, as the list
 --     Sheet: row_stands, rest_stays           the i-th row stands in its own bytes of the sheet, and no byte past the rows changes
 --     Sheet: row_reads_back                   a row that is stored is read back as it was
---     Effect: effect                          what a command that is taken changes is a species, a factor, the line or the rows
+--     Effect: effect                          what a command that is taken changes is a species, a factor, the line or the rows; of trees so many more are noted as it records
 --     Valid: fresh_valid, apply_valid         a fresh survey is valid, and every command keeps a survey so; `reached_valid`: so every one that commands reach is
 --     Checks: declared_true, past_table       no id above 15 is declared, nor has it a place in the table; `declared_in_table`, `opened_in_table`: no command that names one is taken
 --     AsWritten: as_written_lem                   of a valid survey, applying is the papers' text, with no refusal but those that it names
 --     AsWritten: row_of_none                  the row of a line with n = 0 and no small trees has no figure above 0
 --     Named: only_named, never_other          the refusals of each command are those that the papers name; of any survey, besides only 6 and 11
---     Named: refusal_of_applying              the numbers of applying are 5 to 15
+--     Named: refusal_of_applying              the numbers of applying are 5 to 15, and 17
 --     Named: refusal_not_zero, refusal_from_five      and no refusal is taken for acceptance, nor for one of reading or writing
 --     Named: line_row_declines                and those of a line's row by themselves
 --     Limit: limit_told, close_never          11 is told only at the limit, of any survey; closing tells it of no valid one
@@ -29,19 +29,21 @@
 --     Playing: end_at_length, one_at_length, place_of_command, place_in_book      a refused book stops at its end with 1 alone, and with any other number at one of its bytes
 --     Playing: play_as_written                a book comes to what it comes to by the papers' text alone
 --     Playing: play_of_list                   and a book given as its commands plays as they do
---     Playing: play_reaches                   a book that is accepted comes to the survey that the commands which it reads as reach
+--     Playing: play_takes, play_reaches       the commands that a book which is accepted reads as are all taken, and reach the survey that it comes to
 --     Closing: closes_to                      closing leaves the row of the open line, which steps 4 to 7 answer
 --     Closings: rows_of_commands, rows_are    the rows that a list of commands leaves, and so those of an accepted book, are those of its closings, in their order
 --     Closings: closings_of_list              and a list's book has the list's closings
 --     Rows: rows_fit, rows_read_back          no figure of an accepted book's rows is cut off in the sheet, which gives the rows back
 --     Total: total_applied, sheet_applied     the answer of totalling and the sheet, which are those of the papers' text, are those of `apply`
 --     Total: refused_keeps                    a refused book leaves the sheet as it was
---     Total: refusals_of_totalling            and totalling is refused with 1, 2, 3 or 5 to 16
+--     Total: refusals_of_totalling            and totalling is refused with 1, 2, 3 or 5 to 17
 --     Total: place_of_refusal                 16 at 0, 1 at the book's length, and any other number at one of the book's bytes
 --     Sums: sums_small, project_gives         the sums of 32 rows, and eleven times them, fit 64 bits
 --     Sums: sum_is                            and each is what the library's sum gives
 --     Demand3: demand3, demanded              demand 3, of up to 32 closings, and of what every book with every sheet is answered
 --     Demand3: trees_are                      "the N of all lines added" that comes back is that of demand 3's lines
+--     Recorded: as_recorded                   no trees estimated is no trees recorded, of what every book with every sheet is answered
+--     Promise: kept_promise                   what totalling promises can be kept
 --     Demand3: total_den                      and its comparisons with the exact total are comparisons: no denominator is 0
 --     NotVacuous: some_not_above, some_not_below      demand 3 is not empty: whatever the lines, there are fractions not above and not below the powers,
 --     NotVacuous: totals_ordered, low_not_above_high      their totals are in order, and the low of every accepted book is not above its high
@@ -50,6 +52,8 @@
 --     Marked: marked_lines_hold               document 01's marked lines (a) to (j)
 --     WrongPrograms                           document 01's six wrong programs and its low of 0, and that what totalling promises contradicts each
 --     SmallTrees: both_totalled, both_between, small_totalled   of books with small trees, beside measured ones and alone, demand 3 says something
+--     Areas: whole_area_totalled, nothing_totalled, listing_recorded     and so does what Q-4 lets a user read, of books with trees and of one without
+--     Areas: exchanged_refused, seventeen_first                    plots greater by one are refused with 17, before 9 and 8
 --     Witness                                 two of them again, at one command, and that what applying promises contradicts them
 
 -- a command's bytes, and books
@@ -74,10 +78,13 @@ pub mod Total
 pub mod Rows
 pub mod Sums
 pub mod Demand3
+pub mod Recorded
+pub mod Promise
 pub mod NotVacuous
 -- document 01's listing, and its wrong programs
 pub mod Listing
 pub mod Marked
 pub mod WrongPrograms
--- books with small trees (document 02, Q-1)
+-- books with small trees (document 02, Q-1), and of what areas a line may be (Q-4)
 pub mod SmallTrees
+pub mod Areas

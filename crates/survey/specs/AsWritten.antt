@@ -21,8 +21,9 @@ abbrev pub numbers_of : Command → List ℕ
 -- "Species and factor: 6 operand outside its range; 7 already given."
 numbers_of (Command.Species id species) = 5 ∷ 6 ∷ 7 ∷ []
 numbers_of (Command.Factor cm factor) = 5 ∷ 6 ∷ 7 ∷ []
--- "Opening: 6; 9 a line is open; 8 species undeclared, an id above 15 included; 7 same stratum and species already opened; 11 32 lines opened."
-numbers_of (Command.Open stratum species p q) = 5 ∷ 6 ∷ 9 ∷ 8 ∷ 7 ∷ 11 ∷ []
+-- "Opening: 6; 9 a line is open; 8 species undeclared, an id above 15 included; 7 same stratum and species already opened; 11 32 lines opened." "17: q above p,
+-- after 6 and before 9" (document 02, Q-4)
+numbers_of (Command.Open stratum species p q) = 5 ∷ 6 ∷ 17 ∷ 9 ∷ 8 ∷ 7 ∷ 11 ∷ []
 -- "Measured: 10 no line open; 6; 11 over the limit."
 numbers_of (Command.Measured class count) = 5 ∷ 10 ∷ 6 ∷ 11 ∷ []
 -- "Height: 10; 6; 13 tariff outside 1 to 50; 11."

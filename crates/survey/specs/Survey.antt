@@ -92,11 +92,11 @@ give_factor cm factor s =
 unfoldable pub opened : ℕ → ℕ → Survey → Bool
 opened stratum id s = any_line stratum id (rows_of s)
 
--- "Opening: 6; 9 ..; 8 ..; 7 ..; 11 .."
+-- "Opening: 6; 9 ..; 8 ..; 7 ..; 11 .." "17: q above p, after 6 and before 9" (document 02, Q-4)
 unfoldable pub open_line : ℕ → ℕ → ℕ → ℕ → Survey → Report Survey
 open_line stratum id p q s =
     when s.ended 5
-    (opening p q (is_some s.line) (declared_with id s) (opened stratum id s) s.closed λ x.
+    (opening p q (is_some s.line) (declared_with id s) (opened stratum id s) s.closed then λ x.
     gives (with_line s (new_line stratum id x p q)))
 
 -- "04 measured trees: class in cm (1, 7 to 100), count (2, 1 and up)." "1,000,000 measured trees .. a line"

@@ -47,6 +47,8 @@ pub record ValidLine (s : Survey) (l : Line) : Type 0 where
   pub species : species_at s l.id ≡ Some l.species
   pub p : Inside 1 l.p greatest_area
   pub q : Inside 1 l.q greatest_area
+  -- "p is at least q" (document 02, Q-4)
+  pub plots : l.q ≤ l.p
   pub tally : ValidTally l.tally
   pub heights : ValidHeights l.heights
   pub small : ValidSmall l.small

@@ -1,4 +1,4 @@
-// The survey: what a field book has given so far. Each command makes its own checks, in document 01's order, and changes the
+// The survey: what a field book has given so far. Each command makes its own checks, in the papers' order, and changes the
 // survey in its place; where it is refused, the survey is as it was.
 ghost use Rattle.std.specs.Prelude.{◌≡◌, get_or, None};
 ghost use Rattle.biomass.specs.Report.{report, gives, when, after, leaves};

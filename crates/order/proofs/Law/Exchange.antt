@@ -16,7 +16,8 @@ use Rattle.line.proofs.Law.SmallTrees.{small_alone_lem}
 use Rattle.survey.specs.Survey.{with_tables, declared, declare, give_factor, measure, give_height, give_small}
 use Rattle.survey.specs.Apply.{on_line}
 use Rattle.survey.specs.AsWritten.{as_written}
-use Rattle.survey.proofs.Law.Checks.{Gives, then_such, passed, given_same}
+use Rattle.rules.proofs.Law.Passed.{Gives, then_such, passed}
+use Rattle.survey.proofs.Law.Checks.{given_same}
 use Rattle.codec.specs.declared.command.Species.{Species}
 use Rattle.codec.specs.declared.command.Command.{Command}
 use Rattle.line.specs.declared.line.Tally.{Tally}

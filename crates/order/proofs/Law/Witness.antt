@@ -13,10 +13,10 @@ use Rattle.survey.specs.Playing.{stopped, play_list_by}
 use Rattle.survey.specs.Sheet.{sheet_length}
 use Rattle.survey.specs.Total.{Answer, refused_at, totalled, answer_of, total, sheet_after}
 use Rattle.survey.specs.Promise.{Promised}
+use Rattle.survey.proofs.Law.Promise.{kept_promise}
 use Rattle.survey.specs.Listing.{species3, factor101, line1, four_trees, height_tree, line2, listing_commands, listing, listing_totals}
 use Rattle.survey.proofs.Law.Reach.{AllFit, none, and_next}
 use Rattle.survey.proofs.Law.Playing.{play_of_list}
-use Rattle.survey.proofs.Law.Demand3.{demanded}
 use Rattle.survey.proofs.Law.Listing.{listing_totalled}
 use Rattle.order.specs.Order.{Reordered, exchange, and_then, OtherOrder}
 use Rattle.order.proofs.Law.Lines.{reordered_lines}
@@ -52,10 +52,6 @@ listing_other_order = books_of_lists listing_commands height_first listing_fits 
 
     height_first_fits : AllFit height_first
     height_first_fits = begins_fit (and_next {c = height_tree} (omega arith, omega arith) (and_next {c = four_trees} (omega arith, omega arith) rest_fits))
-
--- what totalling promises of a book, it can keep
-pub kept_promise : (book sheet : List ℕ) → Promised book sheet (total book sheet) (sheet_after book sheet)
-kept_promise book sheet = record { answered = refl; stored = refl; demand3 = demanded book sheet }
 
 -- so totalling it answers what document 01 prints of the listing, and leaves the listing's sheet
 pub height_first_totalled : (sheet : List ℕ) → sheet_length ≤ length sheet → (q : Answer) (beside : List ℕ) → Promised (encode_all height_first) sheet q beside

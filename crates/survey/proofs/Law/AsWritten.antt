@@ -2,7 +2,6 @@
 -- a valid line holds is in the ranges of the figures that are worked from it.
 use Rattle.std.specs.Prelude.{ℕ, zero, suc, ◌+◌, ◌*◌, ◌≤◌, ◌<◌, ◌≡◌, refl, Bool, true, false, List, Option, Some, unwrap_or, leb, eqb}
 use Rattle.std.proofs.Common.{zero-le, mul-le-mul, mul-le-mul_left, zero-mul, zero-add, add-zero, arith, ◌∙◌, sym, subst}
-use Rattle.std.proofs.Math.Nat.{div-eq_of_lt}
 use Rattle.std.proofs.Math.Path.{ap}
 use Rattle.std.proofs.Math.Bool.{cond}
 use borrow.Author.Tests.{leb-true, le-leb, lt-leb, eqb-false}
@@ -19,6 +18,7 @@ use Rattle.biomass.specs.SmallTrees.{small_of}
 use Rattle.biomass.proofs.Law.Report.{inside_true}
 use Rattle.biomass.proofs.Law.Tariff.{line_tariff_range}
 use Rattle.biomass.proofs.Law.Mean.{mean_range}
+use Rattle.biomass.proofs.Law.Trees.{none_made}
 use Rattle.biomass.proofs.Law.Tree.{Operands}
 use Rattle.biomass.proofs.Law.Answers.{mean_answers, trees_answers, line_tariff_answers, row_answers, small_answers}
 use Rattle.biomass.proofs.Law.Project.{none_or_some}
@@ -74,15 +74,12 @@ small_given_lem carbon count in_carbon in_count =
     let c = inside_true 1 carbon greatest_carbon in_carbon in
     record { few = (inside_true 1 count most_small in_count).most; some = λ _. c.least; light = c.most }
 
--- step 3 of none is none, so that where small trees are estimated some were counted
-none_scaled : (p q : ℕ) → 1 ≤ q → trees_of 0 p q ≡ 0
-none_scaled p q some = div-eq_of_lt (omega arith)
-
+-- where small trees are estimated some were counted
 pub some_counted : (l : Line) → 1 ≤ l.q → 0 < small_number_of l → 0 < l.small.count
 some_counted l plots some = by_count l.small.count some
   where
     by_count : (count : ℕ) → 0 < trees_of count l.p l.q → 0 < count
-    by_count zero h = omega (arith, none_scaled l.p l.q plots)
+    by_count zero h = omega (arith, none_made l.p l.q plots)
     by_count (suc count) h = omega arith
 
 -- and none add nothing
@@ -105,7 +102,7 @@ module _ (factors : List (Option ℕ)) (l : Line) where
   -- "A line with n = 0 closes with tariff, d, N, low and high all 0", where it has no small trees
   pub row_of_none : 1 ≤ l.q → eqb l.tally.n 0 ≡ true → l.small.count ≡ 0 → closing_row factors l ≡ empty_row l
   row_of_none plots none uncounted =
-      let nothing : small_number_of l ≡ 0 = ap (λ (count : ℕ). trees_of count l.p l.q) uncounted ∙ none_scaled l.p l.q plots in
+      let nothing : small_number_of l ≡ 0 = ap (λ (count : ℕ). trees_of count l.p l.q) uncounted ∙ none_made l.p l.q plots in
       row_by (measured_by none)
       ∙ ap (λ (number : ℕ). estimated_row l (record { measured = no_measured; small = record { number = number; carbon = l.small.carbon } })) nothing
       ∙ simp zero-mul

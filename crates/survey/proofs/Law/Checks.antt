@@ -1,52 +1,23 @@
--- Laws of the checks that a command goes through: what a figure that is given says of each test on the way, and what the tests of two or more parts say.
+-- Laws of the checks that a command goes through, over the tests that they are made of: of what stands somewhere, and those of two or more parts.
 use Rattle.std.specs.Prelude.{ℕ, ◌≤◌, ◌≡◌, refl, Bool, true, false, cond, Option, None, Some, is_some, length, eqb, ◌&&◌}
-use Rattle.std.proofs.Common.{zero-le, lt_of_not-le, arith, ◌∙◌, sym, ap, ap₂, subst, ne_eqb}
+use Rattle.std.proofs.Common.{zero-le, lt_of_not-le, arith, ◌∙◌, sym, ap, ap₂, ne_eqb}
 use Rattle.std.proofs.Math.Decide.{ℕ_discrete, dec_le}
 use Rattle.std.proofs.lemmas.Bool.{false≢true}
 use Rattle.std.proofs.lemmas.List.{get_or_past}
 use Rattle.biomass.specs.Bounds.{Inside}
 use Rattle.biomass.specs.Whole.{inside}
-use Rattle.biomass.specs.Report.{Report, refused, gives, unless, ◌then◌, when, given}
+use Rattle.biomass.specs.Report.{Report, gives, ◌then◌, given}
 use Rattle.biomass.proofs.Law.Report.{inside_true, true_inside, both_true}
-use Rattle.biomass.proofs.Law.Gives.{never, figure_is}
 use Rattle.survey.specs.Survey.{species_at, declared_with, declared, declare, open_line}
-use Rattle.rules.specs.Checks.{species_in_range, is_line}
+use Rattle.rules.specs.Checks.{species_in_range, is_line, opening}
+use Rattle.rules.proofs.Law.Passed.{Gives, passed}
+use Rattle.rules.proofs.Law.Opening.{opening_passes}
 use Rattle.survey.specs.Valid.{ValidSpecies}
 use Rattle.codec.specs.declared.command.Species.{Species}
 use Rattle.line.specs.declared.row.Row.{Row}
 use Rattle.survey.specs.declared.survey.Survey.{Survey}
 
--- ---- what a report gives: its figure is such where it is past the last check, by all that the checks before it say
-
-abbrev pub Gives : {A : Type 0} → (A → Type 0) → Report A → Type 0
-Gives such r = (a : _) → r ≡ gives a → such a
-
-module _ {A : Type 0} (such : A → Type 0) where
-  pub gives_such : (a : A) → such a → Gives such (gives a)
-  gives_such a h b e = subst such (figure_is e) h
-
-  pub when_such : (test : Bool) (n : ℕ) (rest : Report A) → (test ≡ false → Gives such rest) → Gives such (when test n rest)
-  when_such true n rest h a e = never e
-  when_such false n rest h a e = h refl a e
-
-  pub unless_such : (test : Bool) (n : ℕ) (rest : Report A) → (test ≡ true → Gives such rest) → Gives such (unless test n rest)
-  unless_such true n rest h a e = h refl a e
-  unless_such false n rest h a e = never e
-
-  pub cond_such : (test : Bool) (r q : Report A) → (test ≡ true → Gives such r) → (test ≡ false → Gives such q) → Gives such (cond test r q)
-  cond_such true r q h k a e = h refl a e
-  cond_such false r q h k a e = k refl a e
-
-  pub then_such : {B : Type 0} (first : Report B) (f : B → Report A) → Gives (λ b. Gives such (f b)) first → Gives such (first then f)
-  then_such (refused n) f h a e = never e
-  then_such (gives b) f h a e = h b refl a e
-
-  -- what stands somewhere, where something does
-  pub given_such : {B : Type 0} (o : Option B) (n : ℕ) (f : B → Report A) → ((b : B) → o ≡ Some b → Gives such (f b)) → Gives such (given o n then f)
-  given_such None n f h a e = never e
-  given_such (Some b) n f h a e = h b refl a e
-
-pub ruleset passed = (gives_such, when_such, unless_such, cond_such, given_such, then_such)
+-- ---- what stands somewhere, or not
 
 -- two reports that ask alike for what stands somewhere are the same where what follows is, and that only where something stands there
 pub given_same : {A B : Type 0} (o : Option A) (n : ℕ) (f g : A → Report B) → ((a : A) → o ≡ Some a → f a ≡ g a) → given o n then f ≡ given o n then g
@@ -57,8 +28,6 @@ pub given_then : {A B C : Type 0} (f : A → Report B) (o : Option C) (n : ℕ) 
     → ((c : C) → o ≡ Some c → g c then f ≡ q c) → given o n then g then f ≡ given o n then q
 given_then f None n g q h = refl
 given_then f (Some c) n g q h = h c refl
-
--- ---- what stands somewhere, or not
 
 pub none_is_some : {A X : Type 0} {a : A} → None ≡ Some a → X
 none_is_some e = absurd (false≢true (ap is_some e))
@@ -136,9 +105,6 @@ species_in_range_lem id s e =
     )
 
 -- no command that names an id above 15 is taken
-declared_up_to : (id : ℕ) (s : Survey) (x : Species) → declared_with id s ≡ Some x → id ≤ 15
-declared_up_to id s x e = (declared_is id s x e).0
-
 id_in_range : (id : ℕ) (x : Species) → species_in_range id x ≡ true → id ≤ 15
 id_in_range id x e = (species_in_range_lem id x e).0.most
 
@@ -146,9 +112,13 @@ pub declared_in_table : (id : ℕ) (x : Species) (s : Survey) → Gives (λ _. i
 unfolding declare
 declared_in_table id x s = search (passed, id_in_range) depth 12
 
+opening_declared : (id p q : ℕ) (s : Survey) (is_open before : Bool) (closed : ℕ) (x : Species) → opening p q is_open (declared_with id s) before closed ≡ gives x
+    → id ≤ 15
+opening_declared id p q s is_open before closed x e = (declared_is id s x (opening_passes p q is_open (declared_with id s) before closed x e).is_declared).0
+
 pub opened_in_table : (stratum id p q : ℕ) (s : Survey) → Gives (λ _. id ≤ 15) (open_line stratum id p q s)
 unfolding open_line
-opened_in_table stratum id p q s = search (passed, declared_up_to) depth 12
+opened_in_table stratum id p q s = search (passed, opening_declared) depth 12
 
 eqb_symmetric : (a b : ℕ) → eqb a b ≡ eqb b a
 eqb_symmetric a b =

@@ -14,7 +14,8 @@ use Rattle.survey.specs.Survey.{with_row, tree_at, measured_at, estimate, closin
 use Rattle.rules.specs.Checks.{most_lines}
 use Rattle.survey.specs.Apply.{apply}
 use Rattle.survey.specs.Valid.{Within, Valid}
-use Rattle.survey.proofs.Law.Checks.{Gives, passed, in_table}
+use Rattle.rules.proofs.Law.Passed.{Gives, passed}
+use Rattle.survey.proofs.Law.Checks.{in_table}
 use Rattle.survey.proofs.Law.AsWritten.{measured_by, line_operands, not_zero, as_written_lem}
 use Rattle.codec.specs.declared.command.Command.{Command}
 use Rattle.line.specs.declared.line.Line.{Line}

@@ -52,10 +52,10 @@ row_added : (s : Survey) (r : Row) → s.closed < length s.rows → rows_of (wit
 row_added s r fits = rw add-one (take-suc-set s.rows s.closed r fits)
 
 of_effect : {c : Command} {s t : Survey} {closes : List Closing} → Valid s → Effect c s t closes → Between s t closes
-of_effect v (a_species g) = same_rows refl
-of_effect v (a_factor g) = same_rows refl
+of_effect v (a_species g treeless) = same_rows refl
+of_effect v (a_factor g treeless) = same_rows refl
 of_effect v (the_line g) = same_rows refl
-of_effect {s} v (a_row r e) =
+of_effect {s} v (a_row r e treeless) =
     let g = closes_to s _ v e in
     subst (Between s _) (sym (open_is s g.line g.is_open)) (record {
       rows = ap rows_of g.is ∙ row_added s (closing_row s.factors g.line) (omega (arith, v.places, g.room));

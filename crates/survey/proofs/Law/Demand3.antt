@@ -65,12 +65,12 @@ added_is (and_lines c cs w closed) = ap (λ (n : ℕ). both_numbers (estimate_of
 
 -- ---- none is estimated where the N of all lines added is 0, and only there
 
-none_added : (ls : List Estimate) → NoneEstimated ls → trees_added ls ≡ 0
+pub none_added : (ls : List Estimate) → NoneEstimated ls → trees_added ls ≡ 0
 unfolding trees_added
 none_added [] none = refl
 none_added (l ∷ ls) none = omega (arith, none 0, none_added ls (λ i. none (suc i)))
 
-every_none : (ls : List Estimate) → trees_added ls ≡ 0 → NoneEstimated ls
+pub every_none : (ls : List Estimate) → trees_added ls ≡ 0 → NoneEstimated ls
 unfolding trees_added
 every_none [] h i = (refl, refl)
 every_none (l ∷ ls) h zero = omega arith
@@ -134,7 +134,7 @@ module _ (book : List ℕ) (s : Survey) (accepted : play book ≡ ended s) where
   by_text : play_by as_written book ≡ ended s
   by_text = sym (play_as_written book) ∙ accepted
 
-  accepted_demanded : Demanded book (totalled (total_of (rows_of s)))
+  pub accepted_demanded : Demanded book (totalled (total_of (rows_of s)))
   unfolding lines_of
   accepted_demanded =
       let v = play_valid book s accepted in

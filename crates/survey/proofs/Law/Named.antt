@@ -110,7 +110,7 @@ in_other n l other = in_each (λ m. is_in m other) n l
 
 -- the numbers of applying, whatever the command
 abbrev pub of_applying : List ℕ
-of_applying = 5 ∷ 6 ∷ 7 ∷ 8 ∷ 9 ∷ 10 ∷ 11 ∷ 12 ∷ 13 ∷ 14 ∷ 15 ∷ []
+of_applying = 5 ∷ 6 ∷ 7 ∷ 8 ∷ 9 ∷ 10 ∷ 11 ∷ 12 ∷ 13 ∷ 14 ∷ 15 ∷ 17 ∷ []
 
 named_of_applying : (c : Command) → each (λ m. is_in m of_applying) (6 ∷ 11 ∷ numbers_of c) ≡ true
 named_of_applying (Command.Species id species) = refl

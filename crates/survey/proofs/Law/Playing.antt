@@ -385,27 +385,36 @@ play_of_list cs fs =
     let book = encode_all cs in
     sym (play_as_written book) ∙ plays_list book 0 fresh cs fs (stands_itself book) (omega arith) ∙ list_as_written cs 0 fresh fresh_valid
 
--- ---- a book that is accepted comes to the survey that the commands which it reads as reach
+-- ---- the commands that a book which is accepted reads as are all taken, one after the other
 
-reached_on : (c : Command) (cs : List Command) (s t : Survey) → apply c s ≡ gives t → reached (c ∷ cs) s ≡ reached cs t
-unfolding reached
-reached_on c cs s t = ap (λ (r : Report Survey). reached cs (leaves s r).left)
+pub data AllTaken : List Command → Survey → Survey → Type 0 where
+  none_left : {s : Survey} → AllTaken [] s s
+  and_then : {c : Command} {cs : List Command} {s t u : Survey} → apply c s ≡ gives t → AllTaken cs t u → AllTaken (c ∷ cs) s u
 
-reaches : (most : ℕ) (book : List ℕ) (at : ℕ) (s t : Survey) → play_up_to most book at s ≡ ended t → reached (reach book at).commands s ≡ t
-unfolding play_up_to_by reached
-reaches zero book at s t = λ e. is_stopped e
-reaches (suc most) book at s t =
-    let Goal : Played → Type 0 = λ p. p ≡ ended t → reached (reach book at).commands s ≡ t in
+takes : (most : ℕ) (book : List ℕ) (at : ℕ) (s t : Survey) → play_up_to most book at s ≡ ended t → AllTaken (reach book at).commands s t
+unfolding play_up_to_by
+takes zero book at s t = λ e. is_stopped e
+takes (suc most) book at s t =
+    let Goal : Played → Type 0 = λ p. p ≡ ended t → AllTaken (reach book at).commands s t in
     cond_cases Goal s.ended _ _
     (λ is_ended.
-    cond_cases Goal (ltb at (length book)) _ _ (λ some_left e. is_stopped e) (λ none_left e.
-    rw (reach_refused book at 1 (read_at_end book at (ltb-false at (length book) none_left))) (survey_is e)))
+    cond_cases Goal (ltb at (length book)) _ _ (λ some_left e. is_stopped e) (λ none_left_over e.
+    rw (reach_refused book at 1 (read_at_end book at (ltb-false at (length book) none_left_over)))
+    (subst (AllTaken [] s) (survey_is e) none_left)))
     (λ not_ended.
     met_cases Goal at (step book at s) _ (λ n refuses e. is_stopped e) (λ r gave e.
     let k = read_and_applied book at s r.0 r.1 gave in
-    rw (reach_on book at k.command r.1 k.is_read)
-    (reached_on k.command (reach book r.1).commands s r.0 k.is_applied ∙ reaches most book r.1 r.0 t e)))
+    rw (reach_on book at k.command r.1 k.is_read) (and_then k.is_applied (takes most book r.1 r.0 t e))))
+
+pub play_takes : (book : List ℕ) (t : Survey) → play book ≡ ended t → AllTaken (reach book 0).commands fresh t
+unfolding play
+play_takes book t e = takes (suc (length book)) book 0 fresh t e
+
+-- so that they reach the survey that the book comes to
+taken_reaches : {cs : List Command} {s t : Survey} → AllTaken cs s t → reached cs s ≡ t
+unfolding reached
+taken_reaches none_left = refl
+taken_reaches (and_then {c} {cs} {s} e rest) = ap (λ (r : Report Survey). reached cs (leaves s r).left) e ∙ taken_reaches rest
 
 pub play_reaches : (book : List ℕ) (t : Survey) → play book ≡ ended t → reached (reach book 0).commands fresh ≡ t
-unfolding play
-play_reaches book t e = reaches (suc (length book)) book 0 fresh t e
+play_reaches book t e = taken_reaches (play_takes book t e)

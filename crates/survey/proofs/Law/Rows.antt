@@ -39,10 +39,10 @@ fresh_strata = (λ l is. none_is_some is, λ i. let none = ap (λ (r : Row). r.s
 -- a line that follows has the stratum of the line before or one that the command gives, and closing puts the line's into its row
 strata_kept : {c : Command} {s t : Survey} {closes : List Closing} → Effect c s t closes → Fits c → Valid s → Strata s → Strata t
 unfolding closing_row
-strata_kept (a_species g) f v k = k
-strata_kept (a_factor g) f v k = k
+strata_kept (a_species g treeless) f v k = k
+strata_kept (a_factor g treeless) f v k = k
 strata_kept (the_line g) f v k = (g.stratum f k.0, k.1)
-strata_kept {s} (a_row r e) f v k =
+strata_kept {s} (a_row r e treeless) f v k =
     let g = closes_to s _ v e in
     subst Strata (sym g.is) (
       λ l is. none_is_some is,

@@ -23,25 +23,25 @@ pub record Kept (s t : Survey) : Type 0 where
 
 module _ {c : Command} {s : Survey} where
   species_kept : {t : Survey} {closes : List Closing} → Effect c s t closes → (id : ℕ) (x : Species) → species_at s id ≡ Some x → species_at t id ≡ Some x
-  species_kept (a_species {id = new} {x = y} g) id x h =
+  species_kept (a_species {id = new} {x = y} g treeless) id x h =
       get_or-set_other s.species new id (Some y) None (λ same. none_is_some (sym g.new ∙ ap (species_at s) (sym same) ∙ h)) ∙ h
-  species_kept (a_factor g) id x h = h
+  species_kept (a_factor g treeless) id x h = h
   species_kept (the_line g) id x h = h
-  species_kept (a_row r e) id x h = h
+  species_kept (a_row r e treeless) id x h = h
 
   factors_kept : {t : Survey} {closes : List Closing} → Effect c s t closes
       → (cm x : ℕ) → factor_at s.factors cm ≡ Some x → factor_at t.factors cm ≡ Some x
-  factors_kept (a_species g) cm x h = h
-  factors_kept (a_factor {cm = new} {x = y} g) cm x h =
+  factors_kept (a_species g treeless) cm x h = h
+  factors_kept (a_factor {cm = new} {x = y} g treeless) cm x h =
       get_or-set_other s.factors new cm (Some y) None (λ same. none_is_some (sym g.new ∙ ap (factor_at s.factors) (sym same) ∙ h)) ∙ h
   factors_kept (the_line g) cm x h = h
-  factors_kept (a_row r e) cm x h = h
+  factors_kept (a_row r e treeless) cm x h = h
 
   rows_kept : {t : Survey} {closes : List Closing} → Effect c s t closes → Kept s t
-  rows_kept (a_species g) = record { closed = omega arith; rows = λ i h. refl }
-  rows_kept (a_factor g) = record { closed = omega arith; rows = λ i h. refl }
+  rows_kept (a_species g treeless) = record { closed = omega arith; rows = λ i h. refl }
+  rows_kept (a_factor g treeless) = record { closed = omega arith; rows = λ i h. refl }
   rows_kept (the_line g) = record { closed = omega arith; rows = λ i h. refl }
-  rows_kept (a_row r e) =
+  rows_kept (a_row r e treeless) =
       record { closed = omega arith; rows = λ i h. get_or-set_other s.rows s.closed i r no_row (λ same. omega arith) }
 
 -- ---- of every command

@@ -41,7 +41,7 @@ refused_keeps book sheet n at = by_cases (short sheet) (play_by as_written book)
 
 -- the numbers of reading and of applying, and 16. 4 is of writing alone
 abbrev pub of_totalling : List ℕ
-of_totalling = 1 ∷ 2 ∷ 3 ∷ 5 ∷ 6 ∷ 7 ∷ 8 ∷ 9 ∷ 10 ∷ 11 ∷ 12 ∷ 13 ∷ 14 ∷ 15 ∷ 16 ∷ []
+of_totalling = 1 ∷ 2 ∷ 3 ∷ 5 ∷ 6 ∷ 7 ∷ 8 ∷ 9 ∷ 10 ∷ 11 ∷ 12 ∷ 13 ∷ 14 ∷ 15 ∷ 16 ∷ 17 ∷ []
 
 abbrev Named : Answer → Type 0
 Named (refused_at n at) = is_in n of_totalling ≡ true

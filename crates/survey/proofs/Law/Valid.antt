@@ -66,6 +66,7 @@ line_stays s t l there rows v =
       species = there;
       p = v.p;
       q = v.q;
+      plots = v.plots;
       tally = v.tally;
       heights = v.heights;
       small = v.small;
@@ -157,19 +158,19 @@ close_valid s t v e =
 -- ---- every command that is taken
 
 effect_valid : {c : Command} {s t : Survey} {closes : List Closing} → Valid s → Effect c s t closes → SpeciesStay s t → Valid t
-effect_valid {s} v (a_species {id = new} {x} g) stay =
+effect_valid {s} v (a_species {id = new} {x} g treeless) stay =
     tables_valid s v (set s.species new (Some x)) s.factors stay (length-set s.species new (Some x) ∙ v.ids) v.cms
     (λ id y.
     set_cases (λ (o : Option Species). o ≡ Some y → ValidSpecies y) s.species new id (Some x) None (omega (arith, v.ids))
     (λ same is. subst ValidSpecies (some_is is) g.in_range) (λ other. v.species id y))
     v.factors
-effect_valid {s} v (a_factor {cm = new} {x} g) stay =
+effect_valid {s} v (a_factor {cm = new} {x} g treeless) stay =
     tables_valid s v s.species (set s.factors new (Some x)) stay v.ids (length-set s.factors new (Some x) ∙ v.cms) v.species
     (λ cm y.
     set_cases (λ (o : Option ℕ). o ≡ Some y → ValidFactor cm y) s.factors new cm (Some x) None (omega (arith, v.cms))
     (λ same is. record { whole_cm = omega arith; hundredths = subst (λ (z : ℕ). Inside 100 z 200) (some_is is) g.hundredths }) (λ other. v.factors cm y))
 effect_valid {s} v (the_line g) stay = line_valid s v g
-effect_valid {s} v (a_row r e) stay = close_valid s _ v e
+effect_valid {s} v (a_row r e treeless) stay = close_valid s _ v e
 
 pub apply_valid : (c : Command) (s t : Survey) → Valid s → apply c s ≡ gives t → Valid t
 apply_valid c s t v e = effect_valid v (effect c s t e) (species_stay c s t e)

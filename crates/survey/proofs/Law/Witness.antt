@@ -23,16 +23,16 @@ use Rattle.survey.specs.declared.survey.Survey.{Survey}
 
 -- what a command changes was not so before
 effect_changes : {c : Command} {s t : Survey} {closes : List Closing} → Valid s → Effect c s t closes → t ≡ s → ⊥
-effect_changes {s} v (a_species {id} {x} g) same =
+effect_changes {s} v (a_species {id} {x} g treeless) same =
     let is : species_at s id ≡ Some x =
     ap (λ (y : Survey). species_at y id) (sym same) ∙ get_or-set_same s.species id (Some x) None (omega (arith, v.ids)) in
     none_is_some (sym g.new ∙ is)
-effect_changes {s} v (a_factor {cm} {x} g) same =
+effect_changes {s} v (a_factor {cm} {x} g treeless) same =
     let is : factor_at s.factors cm ≡ Some x =
     ap (λ (y : Survey). factor_at y.factors cm) (sym same) ∙ get_or-set_same s.factors cm (Some x) None (omega (arith, v.cms)) in
     none_is_some (sym g.new ∙ is)
 effect_changes v (the_line g) same = g.changed same
-effect_changes {s} v (a_row r e) same = let more : s.closed + 1 ≡ s.closed = ap (λ (x : Survey). x.closed) same in omega arith
+effect_changes {s} v (a_row r e treeless) same = let more : s.closed + 1 ≡ s.closed = ap (λ (x : Survey). x.closed) same in omega arith
 
 -- so a command that a valid survey takes changes it
 pub taken_changes : (c : Command) (s t : Survey) → Valid s → apply c s ≡ gives t → t ≡ s → ⊥

@@ -52,18 +52,18 @@ unfolding
     stored_at sheet_bytes row_bytes
 second_sheet sheet room = sheet_applied second_line sheet ∙ rw (le-ltb (length sheet) sheet_length room)
 
--- ---- a third book, of one measured tree: its areas, 2 and 3, are such that step 3 rounds up
+-- ---- a third book, of one measured tree: its areas, 5 and 3, are such that step 3 rounds up
 
 unfoldable pub one_tree : List ℕ
-one_tree = encode_all (species3 ∷ factor101 ∷ Command.Open 1 3 2 3 ∷ Command.Measured 60 1 ∷ height_tree ∷ Command.Close ∷ Command.End ∷ [])
+one_tree = encode_all (species3 ∷ factor101 ∷ Command.Open 1 3 5 3 ∷ Command.Measured 60 1 ∷ height_tree ∷ Command.Close ∷ Command.End ∷ [])
 
 -- the trees that come back
 abbrev pub trees_back : Answer → Report ℕ
 trees_back (refused_at n at) = refused n
 trees_back (totalled t) = gives t.trees
 
--- 67 hundredths of one, and so in its row
-one_tree_lem : (sheet : List ℕ) → sheet_length ≤ length sheet → (trees_back (total one_tree sheet) ≡ gives 67) × (number_at 4 (sheet_after one_tree sheet) 5 ≡ 67)
+-- 167 hundredths, and so in its row
+one_tree_lem : (sheet : List ℕ) → sheet_length ≤ length sheet → (trees_back (total one_tree sheet) ≡ gives 167) × (number_at 4 (sheet_after one_tree sheet) 5 ≡ 167)
 unfolding
     one_tree encode_all species_from factor_from open_from measured_from height_from command_from read
     fresh declare give_factor opened open_line apply_measured add_trees apply_height add_height apply_close end
@@ -77,16 +77,16 @@ one_tree_lem sheet room =
 
 -- "a tree number not from step 3"
 module _ {sheet after : List ℕ} {r : Answer} (room : sheet_length ≤ length sheet) (promised : Promised one_tree sheet r after) where
-  -- the trees are step 3's of n 1, p 2 and q 3, in the totals and in the row
-  pub trees_from_step_3 : trees_back r ≡ gives (Trees.trees_of 1 2 3)
+  -- the trees are step 3's of n 1, p 5 and q 3, in the totals and in the row
+  pub trees_from_step_3 : trees_back r ≡ gives (Trees.trees_of 1 5 3)
   trees_from_step_3 = ap trees_back promised.answered ∙ (one_tree_lem sheet room).0
 
-  pub row_from_step_3 : number_at 4 after 5 ≡ Trees.trees_of 1 2 3
+  pub row_from_step_3 : number_at 4 after 5 ≡ Trees.trees_of 1 5 3
   row_from_step_3 = ap (λ (l : List ℕ). number_at 4 l 5) promised.stored ∙ (one_tree_lem sheet room).1
 
   -- not rounded down; not the measured trees in hundredths, p and q left out; not in whole trees
-  pub no_other_trees : (t : Totals) → r ≡ totalled t → (t.trees ≡ 66 → ⊥) × (t.trees ≡ 100 → ⊥) × (t.trees ≡ 1 → ⊥)
-  no_other_trees t e = let are : t.trees ≡ 67 = figure_is (sym (ap trees_back e) ∙ trees_from_step_3) in omega arith
+  pub no_other_trees : (t : Totals) → r ≡ totalled t → (t.trees ≡ 166 → ⊥) × (t.trees ≡ 100 → ⊥) × (t.trees ≡ 2 → ⊥)
+  no_other_trees t e = let are : t.trees ≡ 167 = figure_is (sym (ap trees_back e) ∙ trees_from_step_3) in omega arith
 
 module _ {sheet after : List ℕ} {r : Answer} (room : sheet_length ≤ length sheet) (promised : Promised listing sheet r after) where
   -- the promised answer and the promised sheet

@@ -1,6 +1,6 @@
 -- `survey::total::total` meets its contract: its test is the definition's, and then what playing the book came to decides. Demand 3 holds of what is
--- answered, whatever it is (Law.Demand3).
-use Rattle.std.proofs.Common.{◌≡◌, ℕ, ◌≤◌, ◌<◌, List, length, refl, sym, ap, subst, ◌∙◌, rules, arith, lt-ltb, le-ltb}
+-- answered, whatever it is, and what Q-4 lets a user read (Law.Promise).
+use Rattle.std.proofs.Common.{◌≡◌, ℕ, ◌≤◌, ◌<◌, List, length, refl, sym, ap, subst, subst₂, ◌∙◌, rules, arith, lt-ltb, le-ltb}
 use Rattle.codec.specs.Bytes.{stored_at}
 use Rattle.line.specs.declared.row.Row.{Row}
 use Rattle.survey.specs.Bounds.{FewSmall}
@@ -8,12 +8,12 @@ use Rattle.survey.specs.Playing.{Played, ended, stopped, play}
 use Rattle.survey.specs.Survey.{rows_of}
 use Rattle.survey.specs.Sheet.{sheet_length, sheet_bytes}
 use Rattle.survey.specs.Total.{Answer, refused_at, totalled, total_of, answer_of, total, stored_by, sheet_after}
-use Rattle.survey.specs.Demand3.{Demanded}
 use Rattle.survey.specs.Promise.{Promised}
 use Rattle.survey.proofs.Law.Playing.{play_valid}
 use Rattle.survey.proofs.Law.Sheet.{rows_at_most}
 use Rattle.survey.proofs.Law.Total.{total_applied, sheet_applied}
-use Rattle.survey.proofs.Law.Demand3.{rows_small, demanded}
+use Rattle.survey.proofs.Law.Demand3.{rows_small}
+use Rattle.survey.proofs.Law.Promise.{kept_promise}
 use Rattle.survey.specs.declared.survey.Survey.{Survey}
 use Rattle.survey.specs.declared.total.Totals.{Totals}
 use Rattle.survey.proofs.total.total.Goals as goal
@@ -25,9 +25,9 @@ few_small book {s} is are =
     subst FewSmall (sym are) (record { few = rows_at_most s v; small = rows_small s v })
 
 module _ (book sheet : List ℕ) where
-  -- demand 3 holds of what is answered
+  -- so of what is answered, and of the sheet as it then is
   promised : {r : Answer} {x : List ℕ} → r ≡ total book sheet → x ≡ sheet_after book sheet → Promised book sheet r x
-  promised answer laid = record { answered = answer; stored = laid; demand3 = subst (Demanded book) (sym answer) (demanded book sheet) }
+  promised answer laid = subst₂ (Promised book sheet) (sym answer) (sym laid) (kept_promise book sheet)
 
   -- with no room in the sheet
   no_room : length sheet < sheet_length → Promised book sheet (refused_at 16 0) sheet
