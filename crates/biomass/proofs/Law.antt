@@ -8,7 +8,7 @@
 --     Tree: row_bounds, tree_bounds           how far apart the ends are, and how great they can be; the parts' are stem_bounded, crown_bounded, root_bounded
 --     Mean: mean_gives, mean_is, mean_only    a mean that is given is step 2's d, the only one, and in d's range
 --     Tariff: single_tariff_range, line_tariff_range      a tariff that is given is 1 to 50
---     Trees: none_lost, none_made             with plots within the net area no tree is lost in step 3, and of none none are made
+--     Trees: none_lost, none_made             with plots within the net area no tree is lost in step 3, and of none none are made; with greater ones some can be (`lost`)
 --     Answers                                 operands in their ranges are answered, and with what
 --     Declines                                a figure is declined with 6 alone, and a single tariff with 6 or 13
 --     Declines: unless_declines, then_declines    and what is made of checks and of other reports, with their numbers alone

@@ -42,13 +42,17 @@ any_line stratum id rows = list_any (is_line stratum id) rows
 abbrev pub areas_in_range : ℕ → ℕ → Bool
 areas_in_range p q = cond (inside 1 p greatest_area) (inside 1 q greatest_area) false
 
+-- "q above p" (document 02, Q-4)
+abbrev pub plots_above : ℕ → ℕ → Bool
+plots_above p q = ltb p q
+
 -- "Opening: 6; 9 a line is open; 8 species undeclared, an id above 15 included; 7 same stratum and species already opened; 11 32 lines opened." "Opening a
 -- line now tests that p is at least q. .. (17: q above p, after 6 and before 9.)" (Document 02, Q-4.) `there`: what the species was declared with, where it
 -- was; with it the line is opened
 abbrev pub opening : ℕ → ℕ → Bool → Option Species → Bool → ℕ → Report Species
 opening p q is_open there before closed =
     unless (areas_in_range p q) 6
-    (when (ltb p q) 17
+    (when (plots_above p q) 17
     (when is_open 9
     (given there 8 then λ x.
     when before 7

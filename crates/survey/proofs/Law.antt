@@ -42,9 +42,9 @@
 --     Sums: sum_is                            and each is what the library's sum gives
 --     Demand3: demand3, demanded              demand 3, of up to 32 closings, and of what every book with every sheet is answered
 --     Demand3: trees_are                      "the N of all lines added" that comes back is that of demand 3's lines
+--     Demand3: total_den                      and its comparisons with the exact total are comparisons: no denominator is 0
 --     Recorded: as_recorded                   no trees estimated is no trees recorded, of what every book with every sheet is answered
 --     Promise: kept_promise                   what totalling promises can be kept
---     Demand3: total_den                      and its comparisons with the exact total are comparisons: no denominator is 0
 --     NotVacuous: some_not_above, some_not_below      demand 3 is not empty: whatever the lines, there are fractions not above and not below the powers,
 --     NotVacuous: totals_ordered, low_not_above_high      their totals are in order, and the low of every accepted book is not above its high
 --     Listing: listing_totalled, listing_sheet                totalling the listing gives what document 01 prints of it
@@ -53,8 +53,8 @@
 --     WrongPrograms                           document 01's six wrong programs and its low of 0, and that what totalling promises contradicts each
 --     SmallTrees: both_totalled, both_between, small_totalled   of books with small trees, beside measured ones and alone, demand 3 says something
 --     Areas: whole_area_totalled, nothing_totalled, listing_recorded     and so does what Q-4 lets a user read, of books with trees and of one without
---     Areas: exchanged_refused, seventeen_first                    plots greater by one are refused with 17, before 9 and 8
---     Witness                                 two of them again, at one command, and that what applying promises contradicts them
+--     Areas: above_by_one_refused, seventeen_first                 plots greater by one are refused with 17, before 9 and 8
+--     Witness                                 two of the wrong programs again, at one command, and that what applying promises contradicts them
 
 -- a command's bytes, and books
 pub mod Sheet

@@ -63,12 +63,12 @@ listing_recorded = refl
 
 -- ---- q above p by 1: 17 at the opening
 
-unfoldable pub exchanged : List ℕ
-exchanged = encode_all (species3 ∷ Command.Open 1 3 4999 5000 ∷ saplings ∷ Command.Close ∷ Command.End ∷ [])
+unfoldable pub above_by_one : List ℕ
+above_by_one = encode_all (species3 ∷ Command.Open 1 3 4999 5000 ∷ saplings ∷ Command.Close ∷ Command.End ∷ [])
 
-pub exchanged_refused : (sheet : List ℕ) → sheet_length ≤ length sheet → total exchanged sheet ≡ refused_at 17 21
-unfolding exchanged encode_all species_from open_from command_from read fresh declare opened open_line step_by play_up_to_by play
-exchanged_refused sheet room = total_applied exchanged sheet ∙ rw (le-ltb (length sheet) sheet_length room)
+pub above_by_one_refused : (sheet : List ℕ) → sheet_length ≤ length sheet → total above_by_one sheet ≡ refused_at 17 21
+unfolding above_by_one encode_all species_from open_from command_from read fresh declare opened open_line step_by play_up_to_by play
+above_by_one_refused sheet room = total_applied above_by_one sheet ∙ rw (le-ltb (length sheet) sheet_length room)
 
 -- and before it is asked whether a line is open (9) and whether the species is declared (8)
 unfoldable pub wrong_besides : List ℕ

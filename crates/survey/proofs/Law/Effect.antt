@@ -60,7 +60,8 @@ pub record Follows (c : Command) (s : Survey) (next : Option Line) (ended : Bool
   pub changed : with_state s next ended ≡ s → ⊥
 
 -- The survey after the command, with one of these changed; and the closing that the command is, if it is one (`closing` of specs/Closings.antt). A species or
--- a factor is given that was not given before, a line follows, or a row is put after those that stand. Where it is not the line that is changed, no trees are recorded
+-- a factor is given that was not given before, a line follows, or a row is put after those that stand. Where it is not the line that is changed, no trees are
+-- recorded
 pub data Effect (c : Command) (s : Survey) : Survey → List Closing → Type 0 where
   a_species : {id : ℕ} {x : Species} → NewSpecies id x s → trees_in c ≡ 0 → Effect c s (with_species s id x) []
   a_factor : {cm x : ℕ} → NewFactor cm x s → trees_in c ≡ 0 → Effect c s (with_factor s cm x) []
@@ -197,16 +198,19 @@ updated {c} s note h =
     given_such such s.line 10 _ (λ l is_open.
     then_such such (note l) _ (λ m gave. gives_such such (with_line s m) (h l is_open m gave))))
 
--- every command that is taken changes one of the four
+-- every command that is taken changes one of the four. That 04 and 08 record their counts stands by itself, so that an edit which makes it false is told what
+-- differs
 pub effect : (c : Command) (s : Survey) → Gives (λ t. Effect c s t (closing c s)) (apply c s)
 unfolding declare give_factor open_line apply_measured add_trees apply_height add_height end give_small add_small
 effect (Command.Species id x) s = search checked depth 12
 effect (Command.Factor cm x) s = search checked depth 12
 effect (Command.Open stratum id p q) s = let byte : Fits (Command.Open stratum id p q) → stratum < 256 = λ fits. fits.0 in search checked depth 12
-effect (Command.Measured class count) s = updated s (add_trees class count) (λ l is_open. search checked depth 12)
+effect (Command.Measured class count) s =
+    let records : trees_in (Command.Measured class count) ≡ count = refl in updated s (add_trees class count) (λ l is_open. search checked depth 12)
 effect (Command.Height cm tenths) s = updated s (add_height cm tenths) (λ l is_open. search checked depth 12)
 effect Command.Close s = λ t e.
     let g = closes s t e in
     subst (λ (x : Survey). Effect Command.Close s x (of_open s)) (sym g.is) (a_row g.row (e ∙ ap gives g.is) refl)
 effect Command.End s = search checked depth 12
-effect (Command.Small carbon count) s = updated s (add_small carbon count) (λ l is_open. search checked depth 12)
+effect (Command.Small carbon count) s =
+    let records : trees_in (Command.Small carbon count) ≡ count = refl in updated s (add_small carbon count) (λ l is_open. search checked depth 12)

@@ -1,7 +1,7 @@
 -- Document 02, Q-4: no trees estimated is no trees recorded, of every book that is accepted. Each command notes so many trees more of the open line as it
 -- records (Law.Effect), and a closing estimates at least as many as are noted, since the plots are within the net area, and none of none (biomass's Law.Trees).
 -- No line is open when a book begins or ends, so that the trees recorded are all estimated; and demand 3 says when the two figures are equal.
-use Rattle.std.specs.Prelude.{ℕ, ◌+◌, ◌*◌, ◌≤◌, ◌<◌, ◌≡◌, refl, List, [], ◌∷◌, ◌++◌, map, Option, Some, option_map, option_to_list}
+use Rattle.std.specs.Prelude.{ℕ, ◌+◌, ◌*◌, ◌≤◌, ◌<◌, ◌≡◌, refl, List, [], ◌∷◌, ◌++◌, map, Option, Some}
 use Rattle.std.proofs.Common.{zero-le, arith, ◌∙◌, sym, ap, subst}
 use Rattle.biomass.specs.Trees.{trees_of}
 use Rattle.biomass.proofs.Law.Trees.{none_lost, none_made}
@@ -55,7 +55,11 @@ module _ (factors : List (Option ℕ)) (l : Line) (some_plots : 0 < l.q) (plots 
   of_line =
       let m = of_measured in
       let t = of_small in
-      record { enough = omega (arith, m.enough, t.enough); of_none = λ none _. omega (arith, m.of_none (omega arith) refl, t.of_none (omega arith) refl); no_more = zero-le }
+      record {
+        enough = omega (arith, m.enough, t.enough);
+        of_none = λ none _. omega (arith, m.of_none (omega arith) refl, t.of_none (omega arith) refl);
+        no_more = zero-le;
+      }
 
 -- ---- commands, one after the other
 
@@ -71,8 +75,7 @@ of_effect {c} {s} v (a_row r e treeless) =
     let g = closes_to s _ v e in
     let l = v.line g.line g.is_open in
     let k = of_line s.factors g.line l.q.least l.plots in
-    subst (λ (o : Option Line). NoneLost (noted o) (trees_in c) (estimated (option_to_list (option_map (λ l. record { factors = s.factors; line = l }) o))) 0) (sym g.is_open)
-    (omega (arith, treeless, k.enough, k.of_none))
+    rw g.is_open (omega (arith, treeless, k.enough, k.of_none))
 
 estimated_both : (cs ds : List Closing) → estimated (cs ++ ds) ≡ estimated cs + estimated ds
 unfolding trees_added
