@@ -1,7 +1,7 @@
 /*
  * Every function of bindings/c/fieldbook.h, called as the header has it, in C and in C++: document 01's marked lines
- * and its listing, the saplings of the protocol's Appendix 6, areas that are exchanged, square roots, and the version.
- * The status is 0 where all hold.
+ * and its listing, the saplings of the protocol's Appendix 6, areas that are exchanged, square roots, the unit of a mean
+ * diameter, and the version. The status is 0 where all hold.
  */
 #include "fieldbook.h"
 
@@ -40,25 +40,42 @@ static void tariffs_and_trees(void) {
     holds(fieldbook_single_tariff(58830000, 20123000, -54780, -57397, 17, 106, &x) == 0 && x == 26, "(a)");
     holds(fieldbook_single_tariff(58830000, 20123000, -54780, -57397, 17, 600, &x) == FIELDBOOK_TARIFF && x == 0, "13");
     holds(fieldbook_line_tariff(235, 9, &x) == 0 && x == 26, "(c)");
-    holds(fieldbook_mean(400, 19881, &x) == 0 && x == 71, "(d)");
+    holds(fieldbook_mean(400, 19881, &x) == 0 && x == 705, "(d)");
+    holds(fieldbook_mean(40000, 1985280, &x) == 0 && x == 704, "(d), just below the border");
+    holds(fieldbook_mean(40000, 1985281, &x) == 0 && x == 705, "(d), at the border");
     holds(fieldbook_mean(1, 48, &x) == FIELDBOOK_OPERAND && x == 0, "6");
     holds(fieldbook_trees(4, 6, 1, &x) == 0 && x == 2400, "the listing's trees");
     holds(fieldbook_trees(1, 1, 200, &x) == 0 && x == 1, "a two-hundredth of a tree");
     holds(fieldbook_trees(1, 1, 201, &x) == 0 && x == 0, "less than that");
 }
 
+/* The unit of a mean diameter is what the library answers for a tree of so many cm, and what it takes. */
+static void units_to_cm(void) {
+    const uint64_t least = 7 * FIELDBOOK_UNITS_TO_CM, most = 100 * FIELDBOOK_UNITS_TO_CM;
+    uint64_t x, ends[2];
+    holds(fieldbook_mean(1, 49, &x) == 0 && x == least, "(e)");
+    for (uint64_t cm = 7; cm <= 100; cm++)
+        holds(fieldbook_mean(1, cm * cm, &x) == 0 && x == cm * FIELDBOOK_UNITS_TO_CM, "a tree of whole cm");
+    holds(fieldbook_mean(25, 89881, &x) == 0 && x == 59 * FIELDBOOK_UNITS_TO_CM + 96, "59.96 cm");
+    holds(fieldbook_crown(7, least, ends) == 0 && are(ends, 2087794, 2087795), "7 cm");
+    holds(fieldbook_crown(7, most, ends) == 0 && are(ends, 955429636, 955429637), "100 cm");
+    holds(fieldbook_crown(7, least - 1, ends) == FIELDBOOK_OPERAND && are(ends, 0, 0), "less than 7 cm");
+    holds(fieldbook_crown(7, most + 1, ends) == FIELDBOOK_OPERAND && are(ends, 0, 0), "more than 100 cm");
+}
+
 /* The oak of the listing: 60 cm, and 12 m high. */
 static void biomass(void) {
+    const uint64_t cm = FIELDBOOK_UNITS_TO_CM, d = 60 * cm;
     uint64_t t, stem[2], crown[2], root[2], tree[2], row[2], project[2];
-    holds(fieldbook_crown(7, 501, crown) == 0 && crown[FIELDBOOK_LOW] == 273306566, "(i)");
-    holds(fieldbook_root(5, 100, root) == 0 && are(root, 7178370, 7178371), "(f)");
+    holds(fieldbook_crown(7, 50 * cm + cm / 10, crown) == 0 && crown[FIELDBOOK_LOW] == 273306566, "(i)");
+    holds(fieldbook_root(5, 10 * cm, root) == 0 && are(root, 7178370, 7178371), "(f)");
     holds(fieldbook_single_tariff(58830000, 20123000, -54780, -57397, 60, 120, &t) == 0, "the listing's tariff");
-    holds(fieldbook_row(2400, t, 600, 101, 56, 7, 5, row) == 0 && are(row, 50288870208, 50288870425), "(j)");
+    holds(fieldbook_row(2400, t, d, 101, 56, 7, 5, row) == 0 && are(row, 50288870208, 50288870425), "(j)");
     holds(fieldbook_project(row[0], row[1], 2400, project) == 0 && are(project, 92196262, 92196263), "the project");
-    holds(fieldbook_stem(t, 600, 101, 56, stem) == 0 && fieldbook_crown(7, 600, crown) == 0, "stem and crown");
-    holds(fieldbook_root(5, 600, root) == 0 && fieldbook_tree(t, 600, 101, 56, 7, 5, tree) == 0, "root and tree");
+    holds(fieldbook_stem(t, d, 101, 56, stem) == 0 && fieldbook_crown(7, d, crown) == 0, "stem and crown");
+    holds(fieldbook_root(5, d, root) == 0 && fieldbook_tree(t, d, 101, 56, 7, 5, tree) == 0, "root and tree");
     holds(are(tree, stem[0] + crown[0] + root[0], stem[1] + crown[1] + root[1]), "the parts of the tree");
-    holds(fieldbook_row(100, t, 600, 101, 56, 7, 5, row) == 0 && are(row, tree[0], tree[1] + 1), "a row of one tree");
+    holds(fieldbook_row(100, t, d, 101, 56, 7, 5, row) == 0 && are(row, tree[0], tree[1] + 1), "a row of one tree");
 }
 
 /* They stand on 0.1 of 24 ha. The greatest carbon is that of four bytes. */
@@ -110,6 +127,32 @@ static void books(void) {
     holds(fieldbook_sheet_row(sheet, FIELDBOOK_ROW_BYTES, 1, row) == FIELDBOOK_AT_END, "1");
 }
 
+/* 24 oaks of 60 cm and one of 59, and a height tree: their mean is 59.96 cm. */
+static const uint8_t oaks[] = {0x03, 0x01, 0x03, 0x00, 0x00, 0x00, 0x01, 0x00, 0x00, 0x00, 0x01, 0x04, 0x3c, 0x00,
+                               0x18, 0x04, 0x3b, 0x00, 0x01, 0x05, 0x3c, 0x00, 0x78, 0x06, 0x07};
+
+/* Totals a book of these oaks, with the factor at so many cm alone, and reads the first row of the sheet. */
+static uint8_t total_of_oaks(uint8_t cm, uint64_t totals[FIELDBOOK_TOTAL_NUMBERS], uint64_t row[FIELDBOOK_ROW_NUMBERS]) {
+    const uint8_t factor[] = {FIELDBOOK_FACTOR, cm, 101};
+    uint8_t book[sizeof oak + sizeof factor + sizeof oaks], sheet[FIELDBOOK_SHEET_BYTES] = {0};
+    memcpy(book, oak, sizeof oak);
+    memcpy(book + sizeof oak, factor, sizeof factor);
+    memcpy(book + sizeof oak + sizeof factor, oaks, sizeof oaks);
+    uint8_t refusal = fieldbook_total(book, sizeof book, sheet, sizeof sheet, totals);
+    fieldbook_sheet_row(sheet, sizeof sheet, 0, row);
+    return refusal;
+}
+
+/* The factor is the one at 59 cm. */
+static void mean_of_a_row(void) {
+    uint64_t totals[FIELDBOOK_TOTAL_NUMBERS], row[FIELDBOOK_ROW_NUMBERS];
+    holds(total_of_oaks(59, totals, row) == FIELDBOOK_ACCEPTED, "the factor at 59 cm");
+    holds(row[FIELDBOOK_ROW_D] == 59 * FIELDBOOK_UNITS_TO_CM + 96, "the mean diameter of a row");
+    holds(row[FIELDBOOK_ROW_LOW] == 52317593250 && row[FIELDBOOK_ROW_HIGH] == 52317593476, "its low and high");
+    holds(total_of_oaks(60, totals, row) == FIELDBOOK_NO_FACTOR, "14");
+    holds(totals[FIELDBOOK_TOTAL_PLACE] == 47 && row[FIELDBOOK_ROW_D] == 0, "the place of 14");
+}
+
 /* A line of the oak, of 5,000 and 250 square metres: the net area is the first of the two. */
 static void areas(void) {
     const uint64_t good[FIELDBOOK_COMMAND_NUMBERS] = {FIELDBOOK_OPEN, 1, 3, 5000, 250};
@@ -132,11 +175,13 @@ static void areas(void) {
 int main(void) {
     version();
     tariffs_and_trees();
+    units_to_cm();
     biomass();
     small_trees();
     square_roots();
     commands();
     books();
+    mean_of_a_row();
     areas();
     return status;
 }

@@ -54,38 +54,73 @@ root = printed('root.txt', (9, 9, 9))
 check('source: k, a and b of the crown groups as printed', differences('CROWN', constant('biomass', 'crown.rt', 'CROWN', '[[i64; 3]; 8]'), crown), len(crown))
 check('source: b, a and b of the root groups as printed', differences('ROOT', constant('biomass', 'root.rt', 'ROOT', '[[i64; 3]; 6]'), root), len(root))
 
-# Powers by decimals of 60 digits, of which the last alone can be off by one.
-diameters = range(70, 501)
+# Powers in units of 10^-5 by decimals of 60 digits, of which the last alone can be off by one. d is in hundredths of a cm.
+diameters = range(700, 5001)
 with localcontext() as context:
     context.prec = 60
-    by_decimals = [int((Decimal(d).scaleb(-1) ** Decimal('2.4767')).scaleb(5).to_integral_value(ROUND_FLOOR)) for d in diameters]
-table = constant('powers', 'crown.rt', 'POWER', '[u64; 431]')
-check('source: the 431 crown powers against 60-digit decimals', differences('POWER', table, by_decimals), len(by_decimals))
+    powers = {d: (Decimal(d).scaleb(-2) ** Decimal('2.4767')).scaleb(5) for d in diameters}
+    by_decimals = {d: int(power.to_integral_value(ROUND_FLOOR)) for d, power in powers.items()}
+    away = {d: abs(power - power.to_integral_value()) for d, power in powers.items()}
+numbers = constant('powers', 'crown.rt', 'POWER', '[u32; 4301]')
+check('source: the 4,301 crown powers against 60-digit decimals', differences('POWER', numbers, list(by_decimals.values())), len(by_decimals))
 
-# The rule itself, by whole numbers of some 90,000 digits.
-faults = [] if len(table) == len(diameters) else [f'POWER: {len(table)} numbers']
-tens = 10 ** 25233
-for d, w in zip(diameters, table):
-    limit = tens * d ** 24767
+# The rule itself: w^10000 ≤ limit < (w+1)^10000, of which both sides have up to 95,000 digits. They are never equal, since the limit is
+# no 10000th power: so of each side the leading digits settle it.
+table = dict(zip(diameters, numbers))
+lost = [f'd {d}: no power' for d in diameters if d not in table]
+
+
+def leading(base, exponent):
+    """Whole numbers low, high and e with low·2^e ≤ base^exponent ≤ high·2^e, by squaring, one bit of the exponent at a time. Of what is
+    cut off to keep some 256 bits, low drops all, and high gains one for it."""
+    low, high, e = 1, 1, 0
+    for bit in f'{exponent:b}':
+        factor = base if bit == '1' else 1
+        low, high, e = low * low * factor, high * high * factor, 2 * e
+        cut = max(high.bit_length() - 256, 0)
+        low, high, e = low >> cut, -(-high >> cut), e + cut
+    return low, high, e
+
+
+def below(one, other):
+    """Whether the one power is less than the other, to be sure."""
+    (_, high, e), (low, _, f) = one, other
+    least = min(e, f)
+    return high << e - least < low << f - least
+
+
+faults = list(lost)
+for d, w in table.items():
+    tens, rest = leading(10, 466), leading(d, 24767)
+    limit = tens[0] * rest[0], tens[1] * rest[1], tens[2] + rest[2]
+    if not below(leading(w, 10000), limit) or not below(limit, leading(w + 1, 10000)):
+        faults.append(f'd {d}: {w} is not to be seen as the greatest')
+check('source: the 4,301 crown powers by the leading 256 bits of w^10000, 10^466·d^24767 and (w+1)^10000', faults, 2 * len(table))
+
+# The same with every digit, which takes some 20 ms for each: of the whole tenths of a cm, and of the hundred powers that are nearest to a
+# whole number, where digits too few would show first. The nearest is that of d 4293, 1.5·10^-5 away.
+nearest = sorted(diameters, key=away.get)[:100]
+faults = list(lost)
+faults += [] if nearest[0] == 4293 and Decimal('1.5e-5') < away[4293] < Decimal('1.6e-5') else [f'nearest is d {nearest[0]}, {away[nearest[0]]} away']
+sample = sorted({*range(700, 5001, 10), *nearest} & table.keys())
+for d in sample:
+    w, limit = table[d], 10 ** 466 * d ** 24767
     if not w ** 10000 <= limit < (w + 1) ** 10000:
-        faults.append(f'd {d}: {w} is not the greatest with w^10000 ≤ 10^25233·d^24767')
-check('source: the 431 crown powers by w^10000 ≤ 10^25233·d^24767 < (w+1)^10000', faults, 2 * len(table))
+        faults.append(f'd {d}: {w} is not the greatest with w^10000 ≤ 10^466·d^24767')
+check(f'source: {len(sample)} crown powers, with d 4293, by w^10000 ≤ 10^466·d^24767 < (w+1)^10000', faults, 2 * len(sample) + 1)
 
 # What the proved library returns. The powers here are Python's own, not the source text's.
-crown_power = dict(zip(diameters, by_decimals))
-
-
 def ends(kind, group, d):
     coefficient, a, b = (crown if kind == 'crown' else root)[3 * group:3 * group + 3]
-    curved, unit = (d <= 500, 10 ** 6) if kind == 'crown' else (d <= 300, 10 ** 5)
+    curved, unit = (d <= 5000, 10 ** 6) if kind == 'crown' else (d <= 3000, 10 ** 5)
     if not curved:
-        low = (10 * a + b * d) // 10
+        low = (100 * a + b * d) // 100
         return low, low + 1
-    power = crown_power[d] if kind == 'crown' else isqrt(10 ** 5 * d ** 5)
+    power = by_decimals[d] if kind == 'crown' else isqrt(d ** 5)
     return coefficient * power // unit, coefficient * (power + 1) // unit + 1
 
 
-wanted = {(kind, group, d) for kind, groups in (('crown', 8), ('root', 6)) for group in range(groups) for d in range(70, 1001)}
+wanted = {(kind, group, d) for kind, groups in (('crown', 8), ('root', 6)) for group in range(groups) for d in range(700, 10001)}
 figures = subprocess.run([sys.argv[1], 'figures'], stdout=subprocess.PIPE, text=True, check=True).stdout
 returned = {}
 roots = {}

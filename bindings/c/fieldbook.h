@@ -22,10 +22,19 @@ extern "C" {
 #endif
 
 /* The version of this header, the Rust crate and the book's format together; CHANGELOG.md has what raises it. */
-#define FIELDBOOK_VERSION_MAJOR 2
+#define FIELDBOOK_VERSION_MAJOR 3
 #define FIELDBOOK_VERSION_MINOR 0
 #define FIELDBOOK_VERSION_PATCH 0
-#define FIELDBOOK_VERSION "2.0.0"
+#define FIELDBOOK_VERSION "3.0.0"
+
+/*
+ * How many units of a mean diameter there are to the cm: it is in HUNDREDTHS of a cm, 700 TO 10000.
+ *
+ * THE UNIT CHANGED WITH 3.0.0. Up to 2.0.0 it was tenths of a cm, 70 to 1000. Of numbers in tenths, 70 to 699 are
+ * refused with 6 now, BUT 700 TO 1000 ARE TAKEN AS 7 TO 10 CM. Make them of centimetres, by this number. A SHEET THAT
+ * WAS KEPT FROM BEFORE HAS TENTHS, and nothing in it says so.
+ */
+enum { FIELDBOOK_UNITS_TO_CM = 100 };
 
 /* The numbers of the refusals. */
 enum {
@@ -43,7 +52,7 @@ enum {
     FIELDBOOK_LIMIT = 11,           /* 32 lines are opened, or the line would have too many measured or height trees */
     FIELDBOOK_NO_HEIGHT_TREE = 12,  /* no height tree */
     FIELDBOOK_TARIFF = 13,          /* the tariff is outside 1 to 50 */
-    FIELDBOOK_NO_FACTOR = 14,       /* no factor for the line's mean diameter */
+    FIELDBOOK_NO_FACTOR = 14,       /* no factor at the line's mean diameter, cut to whole cm: of 59.96 cm at 59 */
     FIELDBOOK_TOO_MANY_TREES = 15,  /* more than 1,000,000 estimated trees of one sort, measured or small */
     FIELDBOOK_SHORT_SHEET = 16,     /* the sheet has fewer than 800 bytes */
     FIELDBOOK_PLOTS_ABOVE_AREA = 17 /* the plots' area q is above the net area p: are the two exchanged? */
@@ -67,7 +76,7 @@ enum {
     FIELDBOOK_ROW_STRATUM,
     FIELDBOOK_ROW_SPECIES,
     FIELDBOOK_ROW_TARIFF, /* 0 where no tree was measured; so is the mean diameter */
-    FIELDBOOK_ROW_D,      /* the mean diameter of the measured trees, in tenths of a cm */
+    FIELDBOOK_ROW_D,      /* the mean diameter of the measured trees, in HUNDREDTHS of a cm: SINCE 3.0.0 */
     FIELDBOOK_ROW_TREES,  /* the estimated trees, measured and small, in hundredths */
     FIELDBOOK_ROW_LOW,    /* in milligrams of oven-dry biomass */
     FIELDBOOK_ROW_HIGH,
@@ -125,10 +134,11 @@ uint8_t fieldbook_write(uint8_t *buffer, size_t buffer_length, size_t at,
 /*
  * The figures. Each declines 6 where an operand is outside its range, and the single tariff then 13.
  *
- *     c1 to c4   constants of a species in units of 10^-7   d               mean diameter in tenths of a cm, 70 to 1000
- *     cm         10 to 100                                  factor          in hundredths, 100 to 200
- *     tenths     of a metre, 1 to 600                       gravity         in hundredths, 1 to 100
- *     tariff     1 to 50                                    crown, root     groups, 0 to 7 and 0 to 5
+ *     c1 to c4   constants of a species in units of 10^-7   d               mean diameter in HUNDREDTHS of a cm,
+ *     cm         10 to 100                                                  700 TO 10000: SINCE 3.0.0
+ *     tenths     of a metre, 1 to 600                       factor          in hundredths, 100 to 200
+ *     tariff     1 to 50                                    gravity         in hundredths, 1 to 100
+ *                                                           crown, root     groups, 0 to 7 and 0 to 5
  */
 
 /* The tariff of a height tree, 1 to 50. */
@@ -138,7 +148,8 @@ uint8_t fieldbook_single_tariff(int32_t c1, int32_t c2, int32_t c3, int32_t c4, 
 /* The tariff of a line: the sum of its single tariffs, and their number, 1 to 1,000. */
 uint8_t fieldbook_line_tariff(uint64_t sum, uint64_t number, uint64_t *answer);
 
-/* The mean diameter in tenths of a cm: 1 to 1,000,000 measured trees, and the sum of their classes squared. */
+/* The mean diameter in HUNDREDTHS of a cm, SINCE 3.0.0: 1 to 1,000,000 measured trees, and the sum of their classes
+   squared. */
 uint8_t fieldbook_mean(uint64_t n, uint64_t squares, uint64_t *answer);
 
 /* The estimated trees in hundredths: measured trees or small ones, up to 1,000,000; p and q, 1 to 100,000,000. Here q

@@ -1,7 +1,8 @@
 /*
- * Totals the book in a file, and prints its rows and the project as the program `sheet` does. The exit status is 0
- * where it is totalled, 1 where it is refused, and 2 where the file cannot be read or the text not be written. From
- * the repository's root:
+ * Totals the book in a file, and prints its rows and the project as the program `sheet` does. With -d before the book,
+ * each row has its mean diameter in cm after its figures, 0.00 where no tree was measured. The exit status is 0 where it
+ * is totalled, 1 where it is refused, and 2 where the file cannot be read or the text not be written. From the
+ * repository's root:
  *
  *     ./build fieldbook
  *     gcc -std=c99 -I bindings/c bindings/c/total.c target/staticlib/libfieldbook.a -o target/total
@@ -51,18 +52,26 @@ static int read_book(const char *name, Book *book) {
 
 /* Trees to two places, then a low and a high. */
 static void print_figures(uint64_t trees, uint64_t low, uint64_t high) {
-    printf("%" PRIu64 ".%02" PRIu64 " %" PRIu64 " %" PRIu64 "\n", trees / 100, trees % 100, low, high);
+    printf("%" PRIu64 ".%02" PRIu64 " %" PRIu64 " %" PRIu64, trees / 100, trees % 100, low, high);
+}
+
+/* A mean diameter in cm, to two places. */
+static void print_mean(uint64_t d) {
+    printf(" %" PRIu64 ".%02" PRIu64, d / FIELDBOOK_UNITS_TO_CM, d % FIELDBOOK_UNITS_TO_CM);
 }
 
 /* Totalling laid the row there, so it is not refused. */
-static void print_row(const uint8_t *sheet, size_t i) {
+static void print_row(const uint8_t *sheet, size_t i, int with_mean) {
     uint64_t row[FIELDBOOK_ROW_NUMBERS];
     fieldbook_sheet_row(sheet, FIELDBOOK_SHEET_BYTES, i, row);
     printf("%" PRIu64 " %" PRIu64 " ", row[FIELDBOOK_ROW_STRATUM], row[FIELDBOOK_ROW_SPECIES]);
     print_figures(row[FIELDBOOK_ROW_TREES], row[FIELDBOOK_ROW_LOW], row[FIELDBOOK_ROW_HIGH]);
+    if (with_mean)
+        print_mean(row[FIELDBOOK_ROW_D]);
+    printf("\n");
 }
 
-static int print_book(const Book *book) {
+static int print_book(const Book *book, int with_means) {
     uint8_t sheet[FIELDBOOK_SHEET_BYTES] = {0};
     uint64_t totals[FIELDBOOK_TOTAL_NUMBERS];
     uint8_t refusal = fieldbook_total(book->bytes, book->length, sheet, sizeof sheet, totals);
@@ -71,23 +80,26 @@ static int print_book(const Book *book) {
         return 1;
     }
     for (size_t i = 0; i < totals[FIELDBOOK_TOTAL_ROWS]; i++)
-        print_row(sheet, i);
+        print_row(sheet, i, with_means);
     printf("project ");
     print_figures(totals[FIELDBOOK_TOTAL_TREES], totals[FIELDBOOK_TOTAL_LOW], totals[FIELDBOOK_TOTAL_HIGH]);
+    printf("\n");
     return 0;
 }
 
 int main(int count, char **arguments) {
     Book book = {NULL, 0, 0};
-    if (count != 2) {
-        fprintf(stderr, "usage: total BOOK\n");
+    int with_means = count == 3 && strcmp(arguments[1], "-d") == 0;
+    if (count != 2 && !with_means) {
+        fprintf(stderr, "usage: total [-d] BOOK\n");
         return 2;
     }
-    if (!read_book(arguments[1], &book)) {
-        fprintf(stderr, "%s: %s\n", arguments[1], strerror(errno));
+    const char *name = arguments[count - 1];
+    if (!read_book(name, &book)) {
+        fprintf(stderr, "%s: %s\n", name, strerror(errno));
         return 2;
     }
-    int status = print_book(&book);
+    int status = print_book(&book, with_means);
     free(book.bytes);
     /* What was printed may still wait in a buffer. */
     if (fclose(stdout) != 0) {

@@ -2,7 +2,8 @@
 use crate::proved::{self, Answer};
 use crate::random::Random;
 use crate::report::{Report, Tally};
-use crate::{protocol, steps};
+use crate::{powers, protocol, steps};
+use std::fmt::Debug;
 
 /// Operands that the library takes and the steps take.
 pub struct Pair<const N: usize, S> {
@@ -13,6 +14,15 @@ pub struct Pair<const N: usize, S> {
 impl<const N: usize, S: Into<Answer>> Pair<N, S> {
     pub fn agree(&self, tally: &mut Tally, operands: [u64; N]) {
         tally.same(operands, (self.ask)(operands), (self.step)(operands).into());
+    }
+
+    /// What both answer is this, which is worked out elsewhere.
+    pub fn gives(&self, tally: &mut Tally, operands: [u64; N], expected: S)
+    where
+        S: Clone + PartialEq + Debug,
+    {
+        tally.same(operands, (self.ask)(operands), expected.clone().into());
+        tally.same(operands, (self.step)(operands), expected);
     }
 }
 
@@ -29,7 +39,7 @@ pub const PROJECT: Pair<3, steps::Ends> = Pair { ask: proved::project, step: ste
 pub const SQUARE_ROOT: Pair<1, steps::Ends> = Pair { ask: proved::square_root, step: steps::square_root };
 
 pub const TARIFF: (u64, u64) = (1, 50);
-pub const D: (u64, u64) = (70, 1000);
+pub const D: (u64, u64) = (700, 10_000);
 pub const FACTOR: (u64, u64) = (100, 200);
 pub const GRAVITY: (u64, u64) = (1, 100);
 pub const CROWN_GROUP: (u64, u64) = (0, 7);
@@ -61,9 +71,11 @@ pub fn some<const N: usize>(random: &mut Random, ranges: [(u64, u64); N]) -> [u6
 
 pub fn run(report: &mut Report) {
     tariffs(report);
-    means_and_trees(report);
+    means(report);
+    estimates(report);
     less_than_a_tree(report);
     parts(report);
+    borders(report);
     sums(report);
     square_roots(report);
     refusals(report);
@@ -140,33 +152,53 @@ fn numbers() -> impl Iterator<Item = u64> {
     (1..=1_000).chain(wide).filter(|&n| n <= 1_000_000).chain([999_999, 1_000_000])
 }
 
-fn means_and_trees(report: &mut Report) {
-    report.check("mean, every sum of squares of up to 20 trees", |tally| {
-        for n in 1..=20 {
-            for squares in 49 * n..=10_000 * n {
-                MEAN.agree(tally, [n, squares]);
-            }
-        }
+/// The least sum of squares whose mean is d.
+fn least_squares(d: u64, n: u64) -> u64 {
+    ((2 * d - 1).pow(2) * n).div_ceil(40_000)
+}
+
+/// The least number of trees for which (2d−1)²·n is a multiple of 40000, which is 2^6·5^4: so it is for its multiples, and
+/// for no others.
+fn whole_border(d: u64) -> u64 {
+    (0..=4).map(|fives| 64 * 5u64.pow(fives)).find(|n| ((2 * d - 1).pow(2) * n).is_multiple_of(40_000)).expect("40000")
+}
+
+fn means(report: &mut Report) {
+    report.check("mean, every sum of squares of up to 40 trees", |tally| {
+        tally.each(1..=40, |tally, &n| {
+            (49 * n..=10_000 * n).for_each(|squares| MEAN.agree(tally, [n, squares]));
+        });
     });
     report.check("mean, around the least sum of squares of every d", |tally| {
-        for n in numbers() {
+        tally.each(numbers(), |tally, &n| {
             for d in D.0..=D.1 + 1 {
-                let least = ((2 * d - 1).pow(2) * n).div_ceil(400);
-                for squares in least - 1..=least + 1 {
-                    MEAN.agree(tally, [n, squares]);
-                }
+                let least = least_squares(d, n);
+                (least - 1..=least + 1).for_each(|squares| MEAN.agree(tally, [n, squares]));
             }
-        }
+        });
+    });
+    // There the sum with equality belongs to d, and the sum before it to d - 1.
+    report.check("mean, every d and number of trees where (2d−1)²·n is 40000 times a sum of squares", |tally| {
+        tally.each(D.0 + 1..=D.1, |tally, &d| {
+            for n in (whole_border(d)..=MEASURED.1).step_by(whole_border(d) as usize) {
+                let squares = (2 * d - 1).pow(2) * n / 40_000;
+                MEAN.gives(tally, [n, squares], Ok(d));
+                MEAN.gives(tally, [n, squares - 1], Ok(d - 1));
+            }
+        });
     });
     report.check("mean, every number of trees, at and around a d by chance", |tally| {
         let mut random = Random::new(4);
         for n in 1..=MEASURED.1 {
-            let least = ((2 * random.between(D.0, D.1) - 1).pow(2) * n).div_ceil(400);
+            let least = least_squares(random.between(D.0, D.1), n);
             for squares in [least - 1, least, random.between(49 * n, 10_000 * n)] {
                 MEAN.agree(tally, [n, squares]);
             }
         }
     });
+}
+
+fn estimates(report: &mut Report) {
     report.check("trees, at the ends and by chance", |tally| {
         let mut random = Random::new(5);
         let ends = |(least, most): (u64, u64)| [least, least + 1, 2, 3, 7, most / 2, most - 1, most];
@@ -223,20 +255,20 @@ pub const GRAVITIES: [u64; 4] = [1, 56, 99, 100];
 
 fn parts(report: &mut Report) {
     report.check("stem, every tariff and d with 4 factors and 4 gravities", |tally| {
-        for tariff in all(TARIFF) {
-            for d in all(D) {
+        tally.each(all(D), |tally, &d| {
+            for tariff in all(TARIFF) {
                 for factor in FACTORS {
                     for gravity in GRAVITIES {
                         STEM.agree(tally, [tariff, d, factor, gravity]);
                     }
                 }
             }
-        }
+        });
     });
-    // 388 and 389 are either side of 0.118288 m² of basal area.
+    // 3880 and 3881 are either side of 0.118288 m² of basal area.
     report.check("stem, every factor and gravity at 18 trees", |tally| {
         for tariff in [1, 26, 50] {
-            for d in [70, 71, 388, 389, 999, 1000] {
+            for d in [700, 701, 3_880, 3_881, 9_999, 10_000] {
                 for factor in all(FACTOR) {
                     for gravity in all(GRAVITY) {
                         STEM.agree(tally, [tariff, d, factor, gravity]);
@@ -257,6 +289,47 @@ fn parts(report: &mut Report) {
             for d in all(D) {
                 ROOT.agree(tally, [group, d]);
             }
+        }
+    });
+}
+
+/// Where a range or a formula ends. The figures were worked out by decimals of 60 digits.
+fn borders(report: &mut Report) {
+    const OUTSIDE: u64 = 6;
+    report.check("mean, at its borders by name", |tally| {
+        for (operands, d) in [
+            ([1, 48], Err(OUTSIDE)),
+            ([1, 49], Ok(700)),
+            ([1, 10_000], Ok(10_000)),
+            ([1, 10_001], Err(OUTSIDE)),
+            ([1_000_000, 48_999_999], Err(OUTSIDE)),
+            ([1_000_000, 49_000_000], Ok(700)),
+            ([1_000_000, 9_999_000_024], Ok(9_999)),
+            ([1_000_000, 9_999_000_025], Ok(10_000)),
+            ([1_000_000, 10_000_000_000], Ok(10_000)),
+            ([1_000_000, 10_000_000_001], Err(OUTSIDE)),
+            ([1_000_001, 10_000_000_000], Err(OUTSIDE)),
+        ] {
+            MEAN.gives(tally, operands, d);
+        }
+        // A tree of each class has its class, in the unit that the crate names.
+        for class in 7..=100 {
+            MEAN.gives(tally, [1, class * class], Ok(class * fieldbook::UNITS_TO_CM));
+        }
+    });
+    report.check("stem, crown and root, at the borders of d by name", |tally| {
+        for d in [0, 70, 699, 10_001] {
+            STEM.gives(tally, [26, d, 130, 56], Err(OUTSIDE));
+            CROWN.gives(tally, [7, d], Err(OUTSIDE));
+            ROOT.gives(tally, [5, d], Err(OUTSIDE));
+        }
+        STEM.gives(tally, [26, 700, 130, 56], Ok((3_642_168, 3_642_176)));
+        STEM.gives(tally, [50, 10_000, 200, 100], Ok((24_564_340_524, 24_564_340_573)));
+        for (d, low) in [(700, 2_087_794), (5_000, 271_939_578), (5_001, 272_076_284), (10_000, 955_429_636)] {
+            CROWN.gives(tally, [7, d], Ok((low, low + 1)));
+        }
+        for (d, low) in [(700, 2_942_869), (3_000, 111_899_718), (3_001, 111_995_319), (10_000, 781_057_096)] {
+            ROOT.gives(tally, [5, d], Ok((low, low + 1)));
         }
     });
 }
@@ -360,7 +433,7 @@ fn square_roots(report: &mut Report) {
         }
     });
     report.check("square root, of every number that a root is worked with", |tally| {
-        (D.0..=300).for_each(|d| same_root(tally, 100_000 * d.pow(5)));
+        powers::CURVED_ROOT.for_each(|d| same_root(tally, d.pow(5)));
     });
 }
 

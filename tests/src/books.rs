@@ -13,9 +13,11 @@ pub const LONGEST: usize = 65_536;
 /// How many lines a book has at most.
 const LINES: usize = 32;
 
-/// The refusals of opening a line of the same stratum and species again, and one more than 32.
+/// The refusals of opening a line of the same stratum and species again, and one more than 32; and of closing a line that
+/// has no factor.
 const ALREADY_OPENED: u8 = 7;
 const LINES_OPENED: u8 = 11;
+const NO_FACTOR: u8 = 14;
 
 /// The book of document 01's listing.
 pub fn listing() -> Vec<u8> {
@@ -216,13 +218,13 @@ fn by_areas(Opening { name, strata, is_open, at, line, number }: Opening) -> Vec
 /// little to add a hundredth.
 fn areas_accepted() -> Vec<Named> {
     let both = |areas| line_of_both(areas, 4, 1_575_600, 289);
-    let as_recorded = ([26, 600, 29_300, 9_292_175_168, 9_292_175_206], [1, 29_300, 17_035_654, 17_035_655]);
+    let as_recorded = ([26, 6_000, 29_300, 9_292_175_168, 9_292_175_206], [1, 29_300, 17_035_654, 17_035_655]);
     let as_many = [[1, 1], [250, 250], [100_000_000, 100_000_000], [100_000_000, 99_999_999]];
     let as_many = as_many.map(|areas| {
         comes_to(format!("293 trees recorded, areas {areas:?}"), as_recorded.0, as_recorded.1, both(areas))
     });
-    let more = [26, 600, 29_306, 9_292_364_240, 9_292_364_278];
-    let twentyfold = [26, 600, 586_000, 185_843_503_360, 185_843_504_082];
+    let more = [26, 6_000, 29_306, 9_292_364_240, 9_292_364_278];
+    let twentyfold = [26, 6_000, 586_000, 185_843_503_360, 185_843_504_082];
     let above = [
         comes_to("p a square metre above q", more, [1, 29_306, 17_036_001, 17_036_002], both([5_001, 5_000])),
         comes_to("p 5,000 and q 250", twentyfold, [1, 586_000, 340_713_089, 340_713_091], both([5_000, 250])),
@@ -241,7 +243,7 @@ fn small(carbon: u64, count: u64) -> Order {
     (SMALL, vec![carbon, count])
 }
 
-/// Oaks of the listing, and what they need: 11 bytes. Their tariff is 26 and d is 600, and one tree is 2,095,369,592 to
+/// Oaks of the listing, and what they need: 11 bytes. Their tariff is 26 and d is 6000, and one tree is 2,095,369,592 to
 /// 2,095,369,601 mg.
 fn measured_oaks(count: u64) -> [Order; 3] {
     [(FACTOR, vec![60, 101]), (MEASURED, vec![60, count]), (HEIGHT, vec![60, 120])]
@@ -334,7 +336,7 @@ fn at_the_limit() -> Vec<Named> {
         let (row, totals) = ([0, 0, 100_000_000, 2_000_000, 2_000_001], [1, 100_000_000, 3_666, 3_667]);
         let name = |n| format!("small number 100,000,000 of {count}, n = {n}");
         books.push(comes_to(name(0), row, totals, line_of_oaks(areas, [small(1, count)])));
-        let row = [26, 600, 100_000_100, 2_097_369_592, 2_097_369_603];
+        let row = [26, 6_000, 100_000_100, 2_097_369_592, 2_097_369_603];
         let totals = [1, 100_000_100, 3_845_177, 3_845_178];
         books.push(comes_to(name(1), row, totals, line_of_both(areas, 1, 1, count)));
     }
@@ -374,13 +376,57 @@ fn of_small_trees() -> Vec<Named> {
 
 /// Each sort is divided by itself: in the last, 0.92 mg of the oaks and 0.98 mg of the small trees are dropped.
 fn of_both_sorts() -> Vec<Named> {
-    let row = [26, 600, 175_800, 55_753_051_008, 55_753_051_226];
+    let row = [26, 6_000, 175_800, 55_753_051_008, 55_753_051_226];
     let totals = [1, 175_800, 102_213_926, 102_213_928];
-    let apart = ([26, 600, 802, 8_402_432_455, 8_402_432_494], [1, 802, 15_404_459, 15_404_460]);
+    let apart = ([26, 6_000, 802, 8_402_432_455, 8_402_432_494], [1, 802, 15_404_459, 15_404_460]);
     vec![
         comes_to("the listing's line with saplings", row, totals, line_of_both([6, 1], 4, 1_575_600, 289)),
         comes_to("both numbers 401", apart.0, apart.1, line_of_both([401, 400], 4, 49, 4)),
     ]
+}
+
+/// The listing's oak, so many trees of a class and one of the class below, with the factor of one cm alone. The line is
+/// closed at byte 47.
+fn two_classes(class: u64, trees: u64, factor: u64) -> Vec<u8> {
+    let measured = [(MEASURED, vec![class, trees]), (MEASURED, vec![class - 1, 1])];
+    let [factor, height] = [(FACTOR, vec![factor, 101]), (HEIGHT, vec![60, 120])];
+    line_of_oaks([1, 1], [factor].into_iter().chain(measured).chain([height]))
+}
+
+/// Means of 59.96, 59.99 and 60.00 cm, each with the factor at 60 cm alone and with the one at 59 alone. Below 60.00 the
+/// factor is the one at 59.
+pub fn about_sixty() -> Vec<Named> {
+    let means = [
+        ("59.96", 24, 59, [26, 5_996, 2_500, 52_317_593_250, 52_317_593_476], [1, 2_500, 95_915_587, 95_915_589]),
+        ("59.99", 99, 59, [26, 5_999, 10_000, 209_470_301_600, 209_470_302_501], [1, 10_000, 384_028_886, 384_028_888]),
+        (
+            "60.00",
+            249,
+            60,
+            [26, 6_000, 25_000, 523_842_398_000, 523_842_400_251],
+            [1, 25_000, 960_377_729, 960_377_734],
+        ),
+    ];
+    let books = means.into_iter().flat_map(|(mean, trees, cm, row, totals)| {
+        let name = |factor| format!("a mean of {mean} cm, the factor at {factor} alone");
+        let book = |factor| two_classes(60, trees, factor);
+        let other = 59 + 60 - cm;
+        [comes_to(name(cm), row, totals, book(cm)), refused(name(other), (NO_FACTOR, 47), book(other))]
+    });
+    books.collect()
+}
+
+/// For each whole cm from 8 on a mean of 4 hundredths below it, of one below it, and at it: with the factor at this cm alone
+/// and with the one a cm below alone. Each with the number that it is refused with, 0 where it is accepted.
+pub fn about_each_cm() -> Vec<(u8, Vec<u8>)> {
+    let mut books = Vec::new();
+    for class in CM.0 + 1..=CM.1 {
+        for (trees, at_class, below) in [(24, NO_FACTOR, 0), (99, NO_FACTOR, 0), (249, 0, NO_FACTOR)] {
+            books.push((at_class, two_classes(class, trees, class)));
+            books.push((below, two_classes(class, trees, class - 1)));
+        }
+    }
+    books
 }
 
 /// So many lines of both sorts at their greatest, each of 1,000,000 trees of either, and then these commands. Crown of
@@ -397,7 +443,7 @@ fn greatest_lines(lines: u64, last: impl IntoIterator<Item = Order>) -> Vec<u8> 
 /// 11 times the sum of 32 such rows is above 2^63. With 21 of them, and a line of small trees, the N of all lines is just
 /// under 2^32, at it, and just over.
 fn greatest() -> Vec<Named> {
-    let row = [50, 1_000, 200_000_000, 35_002_121_762_000_000, 35_002_121_813_000_002];
+    let row = [50, 10_000, 200_000_000, 35_002_121_762_000_000, 35_002_121_813_000_002];
     let totals = [32, 6_400_000_000, 2_053_457_810_037_333, 2_053_457_813_029_334];
     let mut books = vec![comes_to("32 lines of both sorts at their greatest", row, totals, greatest_lines(32, []))];
     for more in [94_967_295, 94_967_296, 94_967_297] {
@@ -426,12 +472,12 @@ pub fn opened_again() -> Vec<(u8, Vec<u8>)> {
     books
 }
 
-/// Some 1,700 books: accepted, damaged, by chance, at the limits, of small trees, with areas of every kind, and with a
-/// line that is opened again.
+/// Some 1,700 books: accepted, damaged, by chance, at the limits, of small trees, with areas of every kind, with means about
+/// 60 cm, and with a line that is opened again.
 pub fn of_every_kind() -> Vec<Vec<u8>> {
     let seeds = 5_000_000..5_000_300;
     let books = seeds.flat_map(|seed| [accepted, damaged, by_chance].map(|book| book(seed)));
-    let by_hand = small_trees().into_iter().chain(areas()).map(|named| named.book);
+    let by_hand = small_trees().into_iter().chain(areas()).chain(about_sixty()).map(|named| named.book);
     let opened_again = opened_again().into_iter().map(|(_, book)| book);
     books.chain(edges(0..8)).chain(edges_of_small_trees(0..8)).chain(by_hand).chain(opened_again).collect()
 }

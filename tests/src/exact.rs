@@ -6,45 +6,52 @@ use crate::random::Random;
 use crate::report::{Report, Tally};
 use crate::{cores, powers, protocol, proved};
 use std::cmp::Ordering::{Equal, Greater, Less};
+use std::cmp::Reverse;
 use std::fmt::Debug;
 
 /// What a tree may lie between its ends, in mg, for the project's gap to keep its limit.
 const WIDEST_TREE: u64 = 54;
 
-/// All exact figures of one tree are counted in parts of this many to the mg: 10^10 of A, 4·10^5 of z,
-/// 10^8 of V, 10^4 of factor times gravity.
-const PARTS: i128 = 4 * 10i128.pow(10 + 5 + 8 + 4);
+/// All exact figures of one tree are counted in parts of this many to the mg: 10^10 of A, 4·10^7 of z,
+/// 10^8 of V, 10^4 of factor times gravity. A stem has more parts than 128 bits hold.
+const PARTS: u128 = 4 * 10u128.pow(10 + 7 + 8 + 4);
 
-/// The stem: V = B + A·z, with every div an exact division.
-fn stem(tariff: u64, d: u64, factor: u64, gravity: u64) -> i128 {
-    let [t, d, f, s] = [tariff, d, factor, gravity].map(i128::from);
-    let slope = 315049301 * (1_000_000_000 * t - 138763302);
-    let over = 314159265 * d * d - 118288000 * 400000;
-    let base = 360541 * 10_000_000_000 * t * (10_000_000_000 * 400000);
-    (base + slope * over) * f * s
+/// So many units, of which there are so many to the mg.
+fn parts(units: i128, to_the_mg: u128) -> Natural {
+    let units = u128::try_from(units).expect("a figure is not below 0");
+    Natural::of(units).times(&Natural::of(PARTS / to_the_mg))
 }
 
-/// A straight part: (10a + b·d) tenths of a mg.
-fn straight([_, a, b]: [i128; 3], d: u64) -> i128 {
-    (10 * a + b * i128::from(d)) * (PARTS / 10)
+/// The stem: V = B + A·z, with every div an exact division.
+fn stem(tariff: u64, d: u64, factor: u64, gravity: u64) -> Natural {
+    let [t, d] = [tariff, d].map(i128::from);
+    let slope = 315049301 * (1_000_000_000 * t - 138763302);
+    let over = 314159265 * d * d - 118288000 * 40_000_000;
+    let base = 360541 * 10_000_000_000 * t * (10_000_000_000 * 40_000_000);
+    parts(base + slope * over, PARTS).times(&Natural::of(u128::from(factor * gravity)))
+}
+
+/// A straight part: (100a + b·d) hundredths of a mg.
+fn straight([_, a, b]: [i128; 3], d: u64) -> Natural {
+    parts(100 * a + b * i128::from(d), 100)
 }
 
 /// The crown, with (w + more)·10^-5 in the place of its power.
-fn crown(group: u64, d: u64, more: i128) -> i128 {
+fn crown(group: u64, d: u64, more: i128) -> Natural {
     let row = protocol::crown()[group as usize];
-    if d > 500 {
+    if d > 5_000 {
         return straight(row, d);
     }
-    row[0] * (i128::from(powers::crown(d)) + more) * (PARTS / 1_000_000)
+    parts(row[0] * (i128::from(powers::crown(d)) + more), 1_000_000)
 }
 
 /// The root, with (y + more)·10^-5 in the place of its power.
-fn root(group: u64, d: u64, more: i128) -> i128 {
+fn root(group: u64, d: u64, more: i128) -> Natural {
     let row = protocol::root()[group as usize];
-    if d > 300 {
+    if d > 3_000 {
         return straight(row, d);
     }
-    row[0] * (i128::from(powers::root(d)) + more) * (PARTS / 100_000)
+    parts(row[0] * (i128::from(powers::root(d)) + more), 100_000)
 }
 
 /// The exact value of a project, held between whole numbers of parts: 600,000 times PARTS to 11 g.
@@ -64,8 +71,8 @@ impl Exact {
     /// root's y the same.
     pub fn add(&mut self, n: u64, [t, d, f, s, c, r]: [u64; 6]) {
         let line = |more| {
-            let tree = stem(t, d, f, s) + crown(c, d, more) + root(r, d, more);
-            Natural::of(tree as u128).times(&Natural::of(n.into()))
+            let tree = stem(t, d, f, s).plus(&crown(c, d, more)).plus(&root(r, d, more));
+            tree.times(&Natural::of(n.into()))
         };
         self.trees += n;
         self.least = self.least.plus(&line(0));
@@ -75,7 +82,7 @@ impl Exact {
     /// Adds small trees by their number and the carbon of one: twice the carbon is the biomass, with nothing to round.
     pub fn add_small(&mut self, number: u64, carbon: u64) {
         let hundredths = Natural::of(u128::from(number) * 2 * u128::from(carbon));
-        let line = hundredths.times(&Natural::of(PARTS as u128));
+        let line = hundredths.times(&Natural::of(PARTS));
         self.trees += number;
         self.least = self.least.plus(&line);
         self.most = self.most.plus(&line);
@@ -88,7 +95,7 @@ impl Exact {
         holds(high.saturating_sub(low) <= 3 + self.trees / 1000, "the gap's limit");
         // The exact value is 11/6000 of the sum, and N counts hundredths.
         let eleven = Natural::of(11);
-        let whole = Natural::of(600_000).times(&Natural::of(PARTS as u128));
+        let whole = Natural::of(600_000).times(&Natural::of(PARTS));
         let grams = |g: u64| whole.times(&Natural::of(g.into()));
         holds(grams(low) <= self.least.times(&eleven), "the low is above the exact value");
         holds(self.most.times(&eleven) <= grams(high), "the high is below the exact value");
@@ -97,7 +104,9 @@ impl Exact {
 
 pub fn run(report: &mut Report) {
     the_powers(report);
-    the_parts(report);
+    the_stem(report);
+    the_crown(report);
+    the_root(report);
     the_small_trees(report);
     the_tree(report);
     the_project(report);
@@ -117,37 +126,50 @@ fn the_powers(report: &mut Report) {
             tally.same((a, b, m, n), powers::compare(&left, &right), powers::compare_whole(&left, &right));
         }
     });
-    // By whole numbers alone, on every core: 862 comparisons of numbers of some 90,000 digits.
-    report.check("crown power, every d: w^10000 ≤ 10^25233·d^24767 < (w+1)^10000", |tally| {
-        let all: Vec<u64> = powers::CURVED_CROWN.collect();
-        let settle = |&d: &u64| {
-            let w = powers::crown(d);
-            let limit = Natural::power(10, 25233).times(&Natural::power(d, 24767));
-            (d, w, Natural::power(w, 10000) <= limit, Natural::power(w + 1, 10000) > limit)
-        };
-        for (d, w, not_above, next_above) in cores::each(&all, settle) {
-            tally.holds(not_above, (d, w, "is above the power"));
-            tally.holds(next_above, (d, w, "is not the greatest"));
-        }
+    // Powers are made by squares, which are worked in parts; here both are multiplied out too.
+    report.check("squares of whole numbers of up to 1,000 digits to the base 2^64", |tally| {
+        let mut random = Random::new(23);
+        let powers: Vec<_> = (1..=1_000).map(|exponent| (random.any() | 1 << 63, exponent)).collect();
+        tally.each(powers, |tally, &(base, exponent)| {
+            let power = Natural::power(base, exponent);
+            tally.holds(Natural::power(base, 2 * exponent) == power.times(&power), (base, exponent));
+        });
     });
-    report.check("root power, every d: y² ≤ 10^5·d^5 < (y+1)²", |tally| {
-        for d in 70..=300u64 {
-            let (y, limit) = (u128::from(powers::root(d)), 100_000 * u128::from(d).pow(5));
+    // By whole numbers alone: 8,602 comparisons of numbers of some 95,000 digits.
+    report.check("crown power, every d: w^10000 ≤ 10^466·d^24767 < (w+1)^10000", |tally| {
+        tally.each(powers::CURVED_CROWN, |tally, &d| settled(tally, d));
+    });
+    report.check("root power, every d: y² ≤ d^5 < (y+1)²", |tally| {
+        for d in powers::CURVED_ROOT {
+            let (y, limit) = (u128::from(powers::root(d)), u128::from(d).pow(5));
             tally.holds(y * y <= limit && limit < (y + 1) * (y + 1), (d, y));
         }
     });
 }
 
-/// The low is not above the exact figure, nor the high below it.
-fn ends_hold(tally: &mut Tally, operands: impl Debug, ends: [u64; 2], exact: i128) {
-    let [low, high] = ends.map(i128::from);
-    tally.holds(low * PARTS <= exact && exact <= high * PARTS, (operands, low, high));
+/// (w+1)^10000 is above w^10000·(1 + 10000/w). That is above the limit too, but where the power is all but w+1, and it
+/// spares a power of such a size.
+fn settled(tally: &mut Tally, d: u64) {
+    let w = powers::crown(d);
+    let limit = powers::crown_limit(d).map(|(base, exponent)| Natural::power(base, exponent));
+    let limit = limit[0].times(&limit[1]);
+    let power = Natural::power(w, 10000);
+    let whole = |x: u64| Natural::of(x.into());
+    tally.holds(power <= limit, (d, w, "is above the power"));
+    let next_above = limit.times(&whole(w)) <= power.times(&whole(w + 10000)) || limit < Natural::power(w + 1, 10000);
+    tally.holds(next_above, (d, w, "is not the greatest"));
 }
 
-fn the_parts(report: &mut Report) {
+/// The low is not above the exact figure, nor the high below it.
+fn ends_hold(tally: &mut Tally, operands: impl Debug, ends: [u64; 2], exact: Natural) {
+    let [low, high] = ends.map(|mg| parts(mg.into(), 1));
+    tally.holds(low <= exact && exact <= high, (operands, ends));
+}
+
+fn the_stem(report: &mut Report) {
     report.check("stem, low ≤ exact ≤ high", |tally| {
-        for tariff in TARIFF.0..=TARIFF.1 {
-            for d in D.0..=D.1 {
+        tally.each(D.0..=D.1, |tally, &d| {
+            for tariff in TARIFF.0..=TARIFF.1 {
                 for factor in FACTORS {
                     for gravity in GRAVITIES {
                         let operands = [tariff, d, factor, gravity];
@@ -156,35 +178,42 @@ fn the_parts(report: &mut Report) {
                     }
                 }
             }
-        }
+        });
     });
-    // Document 01's own test of a fraction r/t, for the fraction that the figure makes of the power.
+}
+
+/// Document 01's own test of a fraction r/t, for the fraction that the figure makes of the power.
+fn the_crown(report: &mut Report) {
     report.check("crown, low ≤ exact ≤ high", |tally| {
         for group in CROWN_GROUP.0..=CROWN_GROUP.1 {
             for d in D.0..=D.1 {
                 let [low, high] = proved::crown([group, d]).accepted();
-                if d > 500 {
+                if d > 5_000 {
                     ends_hold(tally, (group, d), [low, high], crown(group, d, 0));
                     continue;
                 }
                 let k = protocol::crown()[group as usize][0] as u64;
-                let stands = |mg: u64| powers::compare(&[(10 * mg, 10000), (10, 24767)], &[(k, 10000), (d, 24767)]);
+                let stands = |mg: u64| powers::compare(&[(10 * mg, 10000), (100, 24767)], &[(k, 10000), (d, 24767)]);
                 tally.holds(stands(low) != Greater, (group, d, low, "is above the exact crown"));
                 tally.holds(stands(high) != Less, (group, d, high, "is below the exact crown"));
             }
         }
     });
+}
+
+/// The same, by squares.
+fn the_root(report: &mut Report) {
     report.check("root, low ≤ exact ≤ high", |tally| {
         for group in ROOT_GROUP.0..=ROOT_GROUP.1 {
             for d in D.0..=D.1 {
                 let [low, high] = proved::root([group, d]).accepted();
-                if d > 300 {
+                if d > 3_000 {
                     ends_hold(tally, (group, d), [low, high], root(group, d, 0));
                     continue;
                 }
                 let b = protocol::root()[group as usize][0] as u128;
                 let exact = b.pow(2) * u128::from(d).pow(5);
-                let square = |mg: u64| u128::from(mg).pow(2) * 100_000;
+                let square = |mg: u64| u128::from(mg).pow(2) * 100u128.pow(5);
                 tally.holds(square(low) <= exact, (group, d, low, "is above the exact root"));
                 tally.holds(square(high) >= exact, (group, d, high, "is below the exact root"));
             }
@@ -216,30 +245,45 @@ fn the_small_trees(report: &mut Report) {
     });
 }
 
+/// The gaps of trees, and the widest of them.
+#[derive(Default)]
+struct Gaps {
+    compared: Tally,
+    /// The first of the widest.
+    widest: (u64, Reverse<[u64; 6]>),
+}
+
+impl Gaps {
+    fn look(&mut self, operands: [u64; 6]) {
+        let [low, high] = proved::tree(operands).accepted();
+        self.compared.holds(low < high && high - low <= WIDEST_TREE, (operands, low, high));
+        self.widest = self.widest.max((high - low, Reverse(operands)));
+    }
+}
+
 fn the_tree(report: &mut Report) {
     report.check("tree, the gap is at most 54 mg", |tally| {
-        let mut widest = (0, [0; 6]);
-        let mut look = |tally: &mut Tally, operands: [u64; 6]| {
-            let [low, high] = proved::tree(operands).accepted();
-            tally.holds(low < high && high - low <= WIDEST_TREE, (operands, low, high));
-            widest = widest.max((high - low, operands));
-        };
-        // The stem's gap grows with factor and gravity: all else at their ends, then all by chance.
-        for tariff in TARIFF.0..=TARIFF.1 {
-            for d in D.0..=D.1 {
+        // The stem's gap grows with factor and gravity: those at their ends and all else, then all by chance.
+        let ds: Vec<u64> = (D.0..=D.1).collect();
+        let shares = cores::by_turns(&ds, Gaps::default, |gaps, (_, &d)| {
+            for tariff in TARIFF.0..=TARIFF.1 {
                 for crown in CROWN_GROUP.0..=CROWN_GROUP.1 {
                     for root in ROOT_GROUP.0..=ROOT_GROUP.1 {
-                        look(tally, [tariff, d, 200, 100, crown, root]);
+                        gaps.look([tariff, d, 200, 100, crown, root]);
                     }
                 }
             }
-        }
+        });
+        let mut gaps = Gaps::default();
         let mut random = Random::new(20);
-        for _ in 0..1_000_000 {
-            look(tally, some(&mut random, TREE_RANGES));
-        }
-        let (gap, [tariff, d, ..]) = widest;
-        tally.remark = format!("; the widest is {gap} mg, at tariff {tariff} and d {d}");
+        (0..1_000_000).for_each(|_| gaps.look(some(&mut random, TREE_RANGES)));
+        let shares = shares.into_iter().chain([gaps]);
+        let widest = shares.map(|Gaps { compared, widest }| {
+            tally.add(compared);
+            widest
+        });
+        let (gap, Reverse([tariff, d, ..])) = widest.max().expect("a gap");
+        tally.remark = format!("; the widest is {gap} mg, first at tariff {tariff} and d {d}");
     });
 }
 

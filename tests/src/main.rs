@@ -4,6 +4,7 @@
 //! `outside` runs every check. `outside figures` prints the library's crowns, roots and square roots for power_table.py,
 //! `outside fuzz SEED SECONDS` totals books by chance, and `outside bench` takes times.
 mod agree;
+mod appendix6;
 mod author;
 mod bench;
 mod book;

@@ -1,6 +1,9 @@
 //! Whole numbers of any size, exact: all that comparing powers needs.
 use std::cmp::Ordering;
 
+/// Numbers of fewer digits are squared as any others are multiplied.
+const FEW: usize = 64;
+
 /// Digits to the base 2^64, the least first, with no 0 at the end.
 #[derive(Clone, PartialEq, Eq, Debug)]
 pub struct Natural(Vec<u64>);
@@ -45,12 +48,41 @@ impl Natural {
         Natural::trimmed(product)
     }
 
+    /// Less another one, which is not greater.
+    fn minus(mut self, other: &Natural) -> Natural {
+        let mut borrow = false;
+        for (i, digit) in self.0.iter_mut().enumerate() {
+            let (less, under) = digit.overflowing_sub(other.0.get(i).copied().unwrap_or(0));
+            let (less, under_again) = less.overflowing_sub(borrow.into());
+            (*digit, borrow) = (less, under || under_again);
+        }
+        assert!(!borrow && other.0.len() <= self.0.len());
+        Natural::trimmed(self.0)
+    }
+
+    /// With so many digits 0 below its own.
+    fn shifted(&self, digits: usize) -> Natural {
+        Natural::trimmed([&vec![0; digits], &self.0[..]].concat())
+    }
+
+    /// Cut in two, high·B + low, by three squares of half the length: high²·B² + ((high + low)² - high² - low²)·B + low².
+    fn squared(&self) -> Natural {
+        if self.0.len() < FEW {
+            return self.times(self);
+        }
+        let cut = self.0.len() / 2;
+        let [low, high] = [&self.0[..cut], &self.0[cut..]].map(|digits| Natural::trimmed(digits.to_vec()));
+        let (low_square, high_square) = (low.squared(), high.squared());
+        let middle = low.plus(&high).squared().minus(&low_square.plus(&high_square));
+        high_square.shifted(2 * cut).plus(&middle.shifted(cut)).plus(&low_square)
+    }
+
     /// By squaring: one bit of the exponent at a time, from the top.
     pub fn power(base: u64, exponent: u32) -> Natural {
         let base = Natural::of(base.into());
         let mut power = Natural::of(1);
         for bit in (0..u32::BITS - exponent.leading_zeros()).rev() {
-            power = power.times(&power);
+            power = power.squared();
             if exponent >> bit & 1 == 1 {
                 power = power.times(&base);
             }

@@ -49,7 +49,7 @@ pub type Totalled = Result<Totals, Refused>;
 struct Tables {
     crown: [[i64; 3]; 8],
     root: [[i64; 3]; 6],
-    w: [u64; 501],
+    w: [u64; 5_001],
 }
 
 static TABLES: LazyLock<Tables> = LazyLock::new(|| {
@@ -57,7 +57,7 @@ static TABLES: LazyLock<Tables> = LazyLock::new(|| {
     Tables {
         crown: std::array::from_fn(|i| row(&protocol::crown()[i])),
         root: std::array::from_fn(|i| row(&protocol::root()[i])),
-        w: std::array::from_fn(|d| if d < 70 { 0 } else { powers::crown(d as u64) }),
+        w: std::array::from_fn(|d| if d < 700 { 0 } else { powers::crown(d as u64) }),
     }
 });
 
@@ -122,7 +122,7 @@ fn operands<const N: usize>(book: &[u8], at: usize) -> Result<&[u8; N], Refusal>
 }
 
 fn stem(t: i64, d: i64, f: i64, s: i64) -> (i64, i64) {
-    let g = 314159265 * d * d / 400000;
+    let g = 314159265 * d * d / 40_000_000;
     let a = (315049301 * (1_000_000_000 * t as u64 - 138763302) / 10_000_000_000) as i64;
     let z = g - 118288000;
     let b = 360541 * 10_000_000_000 * t;
@@ -131,7 +131,7 @@ fn stem(t: i64, d: i64, f: i64, s: i64) -> (i64, i64) {
 }
 
 fn straight(a: i64, b: i64, d: i64) -> (i64, i64) {
-    let low = (10 * a + b * d) / 10;
+    let low = (100 * a + b * d) / 100;
     (low, low + 1)
 }
 
@@ -141,7 +141,7 @@ fn curve(k: i64, power: i64, unit: i64) -> (i64, i64) {
 
 fn crown(group: u8, d: i64) -> (i64, i64) {
     let [k, a, b] = TABLES.crown[usize::from(group)];
-    if d > 500 {
+    if d > 5_000 {
         return straight(a, b, d);
     }
     curve(k, TABLES.w[d as usize] as i64, 1_000_000)
@@ -149,10 +149,10 @@ fn crown(group: u8, d: i64) -> (i64, i64) {
 
 fn root(group: u8, d: i64) -> (i64, i64) {
     let [k, a, b] = TABLES.root[usize::from(group)];
-    if d > 300 {
+    if d > 3_000 {
         return straight(a, b, d);
     }
-    curve(k, (100_000 * d.pow(5)).isqrt(), 100_000)
+    curve(k, d.pow(5).isqrt(), 100_000)
 }
 
 impl Species {
@@ -216,8 +216,8 @@ impl Line {
 
     fn add_measured(&self, row: &mut Row, factors: &[u8; 101]) -> Result<(), Refusal> {
         decline(self.heights == 0, NO_HEIGHT_TREE)?;
-        let d = (400 * self.squares / self.n).isqrt().div_ceil(2);
-        let factor = factors[(d / 10) as usize];
+        let d = (40_000 * self.squares / self.n).isqrt().div_ceil(2);
+        let factor = factors[(d / 100) as usize];
         decline(factor == 0, NO_FACTOR)?;
         let trees = self.estimated(self.n)?;
         let tariff = self.tariffs / self.heights;

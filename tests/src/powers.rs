@@ -1,6 +1,7 @@
 //! The two powers of a diameter that steps 5 and 6 use, settled by comparing whole numbers.
 use crate::natural::Natural;
 use std::cmp::Ordering;
+use std::ops::RangeInclusive;
 use std::sync::OnceLock;
 
 /// m·2^e with the top bit of m set.
@@ -84,25 +85,31 @@ fn greatest(guess: u64, passes: impl Fn(u64) -> bool) -> u64 {
     x
 }
 
-/// The diameters whose crown takes the power.
-pub const CURVED_CROWN: std::ops::RangeInclusive<u64> = 70..=500;
+/// The diameters whose crown takes the power, and those whose root does, in hundredths of a cm.
+pub const CURVED_CROWN: RangeInclusive<u64> = 700..=5000;
+pub const CURVED_ROOT: RangeInclusive<u64> = 700..=3000;
 
-/// w of step 5: the greatest with w^10000 ≤ 10^25233·d^24767.
+/// 10^466·d^24767, which is the crown power to the 10000th in units of 10^-5.
+pub fn crown_limit(d: u64) -> [(u64, u32); 2] {
+    [(10, 466), (d, 24767)]
+}
+
+/// w of step 5: the greatest with w^10000 ≤ 10^466·d^24767.
 pub fn crown(d: u64) -> u64 {
     static W: OnceLock<Vec<u64>> = OnceLock::new();
     let all = W.get_or_init(|| {
         CURVED_CROWN
             .map(|d| {
-                let guess = (d as f64 / 10.0).powf(2.4767) * 1e5;
-                greatest(guess as u64, |w| compare(&[(w, 10000)], &[(10, 25233), (d, 24767)]) != Ordering::Greater)
+                let guess = (d as f64 / 100.0).powf(2.4767) * 1e5;
+                greatest(guess as u64, |w| compare(&[(w, 10000)], &crown_limit(d)) != Ordering::Greater)
             })
             .collect()
     });
     all[(d - CURVED_CROWN.start()) as usize]
 }
 
-/// y of step 6: the greatest with y² ≤ 10^5·d^5.
+/// y of step 6: the greatest with y² ≤ d^5.
 pub fn root(d: u64) -> u64 {
-    let limit = 100_000 * u128::from(d).pow(5);
+    let limit = u128::from(d).pow(5);
     greatest((limit as f64).sqrt() as u64, |y| u128::from(y).pow(2) <= limit)
 }

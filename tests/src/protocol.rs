@@ -13,6 +13,11 @@ pub fn decimal(text: &str, places: usize) -> i128 {
     sign * scaled
 }
 
+/// How many places a printed decimal has.
+pub fn places(text: &str) -> usize {
+    text.split_once('.').map_or(0, |(_, part)| part.len())
+}
+
 fn rows<const N: usize>(text: &str, places: [usize; N]) -> Vec<[i128; N]> {
     text.lines()
         .filter(|line| !line.is_empty() && !line.starts_with('#'))
@@ -41,4 +46,9 @@ pub fn tariff() -> Vec<[i32; 4]> {
         .into_iter()
         .map(|row| row.map(|c| i32::try_from(c).expect("a constant of four bytes")))
         .collect()
+}
+
+/// The height trees of strata IV to VIII of Appendix 6: stratum, cm, tenths of a metre, and the tariff.
+pub fn height_trees() -> Vec<[i128; 4]> {
+    rows(include_str!("../protocol/appendix6.txt"), [0, 0, 1, 0])
 }

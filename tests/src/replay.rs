@@ -52,6 +52,9 @@ pub fn run(report: &mut Report) {
     check("replay, bytes by chance", noise.to_vec());
     check("replay, every byte with 0 to 21 bytes after it", streams::cut_short(&mut random));
     check("replay, after each of 32 lines every line opened again", vec![streams::opened_again()]);
+    // A second 07 after the end, so that each book begins a new survey.
+    let about_each_cm = books::about_each_cm().into_iter().flat_map(|(_, book)| [book, vec![book::END]].concat());
+    check("replay, the factor about each whole cm", vec![about_each_cm.collect()]);
     answers(report, &met);
 }
 

@@ -1,4 +1,5 @@
 //! Named checks: one line each, and a last line that counts them.
+use crate::cores;
 use std::any::Any;
 use std::fmt::Debug;
 use std::panic::{catch_unwind, AssertUnwindSafe};
@@ -28,6 +29,13 @@ impl Tally {
         if !condition {
             self.differ(format_args!("{operands:?}"));
         }
+    }
+
+    /// What is to be looked at for each, by every core.
+    pub fn each<T: Sync>(&mut self, all: impl IntoIterator<Item = T>, look: impl Fn(&mut Tally, &T) + Sync) {
+        let all: Vec<T> = all.into_iter().collect();
+        let shares = cores::by_turns(&all, Tally::default, |tally, (_, one)| look(tally, one));
+        shares.into_iter().for_each(|tally| self.add(tally));
     }
 
     /// Adds what was compared elsewhere.

@@ -55,11 +55,12 @@ pub fn line_tariff([sum, number]: [u64; 2]) -> Count {
     Ok(sum / number)
 }
 
-/// Step 2. (2d−1)² ≤ 400·S/n says that 2d−1 is at most the whole root r of it, and 2d+1 is above r: d is half of r+1.
+/// Step 2, in hundredths of a cm. (2d−1)² ≤ 40000·S/n says that 2d−1 is at most the whole root r of it, and 2d+1 is above
+/// r: d is half of r+1.
 pub fn mean([n, squares]: [u64; 2]) -> Count {
     within(1, n, 1_000_000)?;
     within(49 * n, squares, 10_000 * n)?;
-    let quotient = 400 * squares / n;
+    let quotient = 40_000 * squares / n;
     let mut r = (quotient as f64).sqrt() as u64;
     while r * r > quotient {
         r -= 1;
@@ -68,7 +69,7 @@ pub fn mean([n, squares]: [u64; 2]) -> Count {
         r += 1;
     }
     let d = r.div_ceil(2);
-    assert!((2 * d - 1).pow(2) * n <= 400 * squares && 400 * squares < (2 * d + 1).pow(2) * n);
+    assert!((2 * d - 1).pow(2) * n <= 40_000 * squares && 40_000 * squares < (2 * d + 1).pow(2) * n);
     Ok(d)
 }
 
@@ -83,10 +84,10 @@ pub fn trees([n, p, q]: [u64; 3]) -> Count {
 /// Step 4.
 pub fn stem([tariff, d, factor, gravity]: [u64; 4]) -> Ends {
     let t = within(1, tariff, 50)?;
-    let d = within(70, d, 1000)?;
+    let d = within(700, d, 10_000)?;
     let f = within(100, factor, 200)?;
     let s = within(1, gravity, 100)?;
-    let g = div(314159265 * d * d, 400000);
+    let g = div(314159265 * d * d, 40_000_000);
     let a = div(315049301 * (1_000_000_000 * t - 138763302), 10_000_000_000);
     let z = g - 118288000;
     let b = 360541 * 10_000_000_000 * t;
@@ -98,16 +99,16 @@ pub fn stem([tariff, d, factor, gravity]: [u64; 4]) -> Ends {
 
 /// The straight part of steps 5 and 6.
 fn straight(a: i128, b: i128, d: i128) -> (u64, u64) {
-    let low = div(10 * a + b * d, 10);
+    let low = div(100 * a + b * d, 100);
     (figure(low), figure(low + 1))
 }
 
 /// Step 5.
 pub fn crown([group, d]: [u64; 2]) -> Ends {
     within(0, group, 7)?;
-    within(70, d, 1000)?;
+    within(700, d, 10_000)?;
     let [k, a, b] = protocol::crown()[group as usize];
-    if d > 500 {
+    if d > 5_000 {
         return Ok(straight(a, b, d.into()));
     }
     let w = i128::from(powers::crown(d));
@@ -117,9 +118,9 @@ pub fn crown([group, d]: [u64; 2]) -> Ends {
 /// Step 6.
 pub fn root([group, d]: [u64; 2]) -> Ends {
     within(0, group, 5)?;
-    within(70, d, 1000)?;
+    within(700, d, 10_000)?;
     let [curve, a, b] = protocol::root()[group as usize];
-    if d > 300 {
+    if d > 3_000 {
         return Ok(straight(a, b, d.into()));
     }
     let y = i128::from(powers::root(d));

@@ -212,7 +212,7 @@ impl Survey {
         }
         decline(line.tariffs.is_empty(), NO_HEIGHT_TREE)?;
         let d = figure(steps::mean([n, line.squares()]));
-        let &factor = self.factors.get(&(d / 10)).ok_or(NO_FACTOR)?;
+        let &factor = self.factors.get(&(d / 100)).ok_or(NO_FACTOR)?;
         let [trees, _] = line.estimates();
         decline(trees > 100_000_000, TOO_MANY_TREES)?;
         let tariff = figure(steps::line_tariff([line.tariff_sum(), line.tariffs.len() as u64]));

@@ -96,7 +96,9 @@ pub fn run(report: &mut Report) {
     listing(report);
     by_hand(report, "small trees", 407, books::small_trees());
     by_hand(report, "areas", 409, books::areas());
-    opened_again(report);
+    by_hand(report, "means about 60 cm", 410, books::about_sixty());
+    numbered(report, "the factor about each whole cm", 411, books::about_each_cm());
+    numbered(report, "each line opened again, and a 33rd", 406, books::opened_again());
     let mut met = Met::default();
     let mut check = |name: &str, cases: Vec<Case>| {
         report.check(&format!("totals, {name}"), |tally| compare(tally, &cases, &mut met));
@@ -175,7 +177,7 @@ fn exact(Totals { survey, .. }: &Totals) -> Exact {
         if measured > 0 {
             let [tariff, d, ..] = line.row;
             let [crown, root, gravity] = survey.species[&line.species].parts;
-            exact.add(measured, [tariff, d, survey.factors[&(d / 10)], gravity, crown, root]);
+            exact.add(measured, [tariff, d, survey.factors[&(d / 100)], gravity, crown, root]);
         }
         if let Some([carbon, _]) = line.small {
             exact.add_small(small, carbon);
@@ -245,11 +247,11 @@ fn last_row_of((_, [rows, ..]): &Totalled, bytes: &[u8]) -> Option<[u64; 5]> {
     Some(figures)
 }
 
-/// A line that was opened is refused with 7, whichever it is and however many there are; and a 33rd with 11.
-fn opened_again(report: &mut Report) {
-    report.check("totals, each line opened again, and a 33rd", |tally| {
-        let (numbers, books): (Vec<_>, Vec<_>) = books::opened_again().into_iter().unzip();
-        let cases = cases(406, books.into_iter(), None);
+/// Books each with the number that it is refused with, 0 where it is accepted.
+fn numbered(report: &mut Report, kind: &str, seed: u64, books: Vec<(u8, Vec<u8>)>) {
+    report.check(&format!("totals, {kind}"), |tally| {
+        let (numbers, books): (Vec<_>, Vec<_>) = books.into_iter().unzip();
+        let cases = cases(seed, books.into_iter(), None);
         for (case, expected) in cases.iter().zip(numbers) {
             let ((number, _), _) = case.library();
             tally.same(Hex(&case.book), number, expected);

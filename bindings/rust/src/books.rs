@@ -27,7 +27,7 @@ pub struct Row {
     pub species: u8,
     /// 0 where no tree was measured; so is d.
     pub tariff: u8,
-    /// The mean diameter of the measured trees, in tenths of a cm.
+    /// The mean diameter of the measured trees, in HUNDREDTHS of a cm since 3.0.0: [`UNITS_TO_CM`](crate::UNITS_TO_CM).
     pub d: u16,
     /// The estimated trees, measured and small, in hundredths.
     pub trees: u32,

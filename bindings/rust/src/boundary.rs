@@ -81,7 +81,7 @@ pub fn total(book: &[u8], sheet: &mut [u8], answer: &mut [u64; 5]) -> u8 {
     unsafe { fieldbook_total(book.as_ptr(), book.len(), sheet.as_mut_ptr(), sheet.len(), answer) }
 }
 
-/// The answer: stratum, species, tariff, d in tenths of a cm, trees in hundredths, low and high in milligrams of
+/// The answer: stratum, species, tariff, d in hundredths of a cm, trees in hundredths, low and high in milligrams of
 /// biomass.
 pub fn sheet_row(sheet: &[u8], i: usize, answer: &mut [u64; 7]) -> u8 {
     unsafe { fieldbook_sheet_row(sheet.as_ptr(), sheet.len(), i, answer) }

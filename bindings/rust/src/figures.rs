@@ -16,12 +16,31 @@ pub struct Range<Unit> {
     pub high: Unit,
 }
 
+/// How many units of a mean diameter there are to the cm: it is in HUNDREDTHS of a cm, 700 to 10000.
+///
+/// THE UNIT CHANGED WITH 3.0.0. Up to 2.0.0 it was tenths of a cm, 70 to 1000. Of numbers in tenths, 70 to 699 are refused
+/// now, but 700 to 1000 are taken as 7 to 10 cm. Make them of centimetres, by this number. A sheet that was kept from before
+/// has tenths, and nothing in it says so.
+///
+/// ```
+/// use fieldbook::{mean, root, Milligrams, Refusal, UNITS_TO_CM};
+///
+/// // A tree of 7 cm; and 24 of 60 cm with one of 59.
+/// assert_eq!(mean(1, 49), Ok(7 * UNITS_TO_CM));
+/// assert_eq!(mean(25, 24 * 60 * 60 + 59 * 59), Ok(59 * UNITS_TO_CM + 96));
+/// // The root of a red alder of 10 cm. The tenths of before are less than 7 cm.
+/// assert_eq!(root(5, 10 * UNITS_TO_CM)?.low, Milligrams(7178370));
+/// assert_eq!(root(5, 100), Err(Refusal::OPERAND));
+/// # Ok::<(), Refusal>(())
+/// ```
+pub const UNITS_TO_CM: u64 = 100;
+
 /// The tree that stands for a line's trees.
 #[derive(Clone, Copy, PartialEq, Eq, Debug)]
 pub struct AverageTree {
     /// 1 to 50.
     pub tariff: u64,
-    /// Mean diameter in tenths of a cm, 70 to 1000.
+    /// Mean diameter in HUNDREDTHS of a cm, 700 to 10000, since 3.0.0: [`UNITS_TO_CM`].
     pub d: u64,
     /// Total over merchantable stem volume in hundredths, 100 to 200.
     pub factor: u64,
@@ -66,7 +85,8 @@ pub fn line_tariff(sum: u64, number: u64) -> Result<u64, Refusal> {
     count(|answer| boundary::line_tariff(sum, number, answer))
 }
 
-/// The mean diameter in tenths of a cm: 1 to 1,000,000 measured trees, and the sum of their classes squared.
+/// The mean diameter in HUNDREDTHS of a cm, since 3.0.0: 1 to 1,000,000 measured trees, and the sum of their classes
+/// squared. See [`UNITS_TO_CM`].
 pub fn mean(n: u64, squares: u64) -> Result<u64, Refusal> {
     count(|answer| boundary::mean(n, squares, answer))
 }
@@ -82,12 +102,12 @@ pub fn stem(tariff: u64, d: u64, factor: u64, gravity: u64) -> Result<Range<Mill
     range(Milligrams, |answer| boundary::stem(tariff, d, factor, gravity, answer))
 }
 
-/// The crown of one tree: a group, 0 to 7, and d.
+/// The crown of one tree: a group, 0 to 7, and d as in [`AverageTree`].
 pub fn crown(group: u64, d: u64) -> Result<Range<Milligrams>, Refusal> {
     range(Milligrams, |answer| boundary::crown(group, d, answer))
 }
 
-/// The root of one tree: a group, 0 to 5, and d.
+/// The root of one tree: a group, 0 to 5, and d as in [`AverageTree`].
 pub fn root(group: u64, d: u64) -> Result<Range<Milligrams>, Refusal> {
     range(Milligrams, |answer| boundary::root(group, d, answer))
 }

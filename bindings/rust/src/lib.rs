@@ -36,7 +36,7 @@ pub use books::{sheet_row, total, Row, Totals, ROW, SHEET};
 pub use commands::{read, write, Command, Species};
 pub use figures::{
     crown, line_tariff, mean, project, root, row, single_tariff, small_trees, square_root, stem, tree, trees,
-    AverageTree, Grams, Milligrams, Range, SquareRoot,
+    AverageTree, Grams, Milligrams, Range, SquareRoot, UNITS_TO_CM,
 };
 pub use refusal::{Refusal, Refused};
 

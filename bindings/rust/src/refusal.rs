@@ -52,7 +52,7 @@ impl Refusal {
             }
             Refusal::NO_HEIGHT_TREE => "no height tree",
             Refusal::TARIFF => "the tariff is outside 1 to 50",
-            Refusal::NO_FACTOR => "no factor for the line's mean diameter",
+            Refusal::NO_FACTOR => "no factor at the line's mean diameter, cut to whole cm",
             Refusal::TOO_MANY_TREES => "more than 1,000,000 estimated trees of one sort, measured or small",
             Refusal::SHORT_SHEET => "the sheet has fewer than 800 bytes",
             Refusal::PLOTS_ABOVE_AREA => "the plots' area is above the net area: are the two exchanged?",

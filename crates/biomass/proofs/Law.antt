@@ -17,7 +17,8 @@
 --     Project: none_of_equal, project_gap, project_not_over   what demand 3 says of the project's two figures, clause by clause
 --     SmallTrees: small_not_under, small_not_over, small_bounds   the exact biomass of small trees lies from their low to their high, which are 1 mg apart at most
 --     SquareRoot: root_and_square, root_and_square_only, greatest_root_lem    a number is from its root's square on and below the next, and so of no other root
---     Marked: marked_hold                     document 01's marked lines (a) to (i)
+--     Unit: square_scale_is, area_scale_is    the numbers that steps 2 and 4 name are those of the unit of d
+--     Marked: marked_hold, appendix6_means    document 01's marked lines (a) to (i), and the two means for which document 02 asks
 
 -- numbers: div; differences of naturals
 pub mod Whole
@@ -26,6 +27,8 @@ pub mod Signed
 pub mod Report
 pub mod Gives
 pub mod SameChecks
+-- the unit of d
+pub mod Unit
 -- the steps
 pub mod Tariff
 pub mod Mean

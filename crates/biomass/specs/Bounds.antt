@@ -9,7 +9,7 @@ pub record Inside (lo x hi : ℕ) : Type 0 where
   pub least : lo ≤ x
   pub most : x ≤ hi
 
--- "d 70 to 1000; T 1 to 50"
+-- d's "range 700 to 10000"; "T 1 to 50"
 abbrev pub InRange : ℕ → ℕ → Type 0
 InRange T d = (1 ≤ T) × (T ≤ 50) × (least_d ≤ d) × (d ≤ greatest_d)
 

@@ -36,7 +36,8 @@ a g = entry crown_table g 1
 abbrev pub b : ℕ → ℤ
 b g = entry crown_table g 2
 
--- "For d ≤ 500, .. low = k·w div 10^6, high = k·(w+1) div 10^6 + 1. .. For d > 500, low = (10a + b·d) div 10, high = low + 1."
+-- "low = k·w div 10^6, high = k·(w+1) div 10^6 + 1." "The crown changes equation above 5000", and "the straight lines use (100a + b·d) div 100": "high = low + 1"
+-- there (document 01, step 5; document 02, Q-5).
 -- (Every group, larches too: docs/DECISIONS.md, decision 1.)
 unfoldable pub crown_ends : ℕ → ℕ → Ends
 crown_ends g d = part_ends crown_table crown_limit w (10 ^ 6) g d

@@ -28,7 +28,7 @@ entry table group column = get_or (get_or table group []) column (pos 0)
 abbrev pub curve : ℤ → ℕ → ℕ → Ends
 curve k p m = record { low = (k *ℤ pos p) div m; high = (k *ℤ pos (p + 1)) div m +ℤ pos 1 }
 
--- A straight line: "low = (10a + b·d) div 10, high = low + 1"
+-- "The straight lines use (100a + b·d) div 100" (document 02, Q-5), and "high = low + 1"
 abbrev pub straight : ℤ → ℤ → ℕ → Ends
 straight a b d =
     let low = (pos units_to_cm *ℤ a +ℤ b *ℤ pos d) div units_to_cm in

@@ -18,14 +18,14 @@ pub record Given : Type 0 where
 abbrev pub value : Given → Fraction
 value g = whole (pos g.r) over g.t
 
--- ".. is not above the crown power when r^10000·10^24767 ≤ t^10000·d^24767, .. not below, with ≥."
+-- ".. is not above the crown power when" "r^10000·100^24767" "≤ t^10000·d^24767, .. not below, with ≥.": "In the exact value 100 stands for 10" (document 02, Q-5)
 pub record NotAboveCrown (d : ℕ) (g : Given) : Type 0 where
   pub le : g.r ^ crown_degree * units_to_cm ^ crown_exponent ≤ g.t ^ crown_degree * d ^ crown_exponent
 
 pub record NotBelowCrown (d : ℕ) (g : Given) : Type 0 where
   pub ge : g.t ^ crown_degree * d ^ crown_exponent ≤ g.r ^ crown_degree * units_to_cm ^ crown_exponent
 
--- ".. nor the root power when r²·10^5 ≤ t²·d^5; not below, with ≥."
+-- ".. nor the root power when" "r²·100^5" "≤ t²·d^5; not below, with ≥."
 pub record NotAboveRoot (d : ℕ) (g : Given) : Type 0 where
   pub le : g.r ^ 2 * units_to_cm ^ 5 ≤ g.t ^ 2 * d ^ 5
 

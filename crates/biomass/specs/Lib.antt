@@ -1,6 +1,7 @@
 -- The law of this crate, in the order of document 01: what each figure is. Each definition stands under the sentence that it states, of document 01 or, where it
--- says so, of document 02. "The papers", here and in every other crate, are document 01 with what the requests of document 02 have changed of it: so far Q-1. (Q-2
--- and Q-3 change nothing of it.)
+-- says so, of document 02. "The papers", here and in every other crate, are document 01 with what the requests of document 02 have changed of it: so far Q-1, Q-4
+-- and Q-5. (Q-2 and Q-3 change nothing of it.) Where Q-5 gives a sentence of document 01 another number, since d is in hundredths of a cm, the words stand in quotes
+-- and the number beside them.
 --
 -- HOW TO READ specs/, here and in every other crate. A file says what things are; a line that begins with two dashes is a remark. The signs:
 --

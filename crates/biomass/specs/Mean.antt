@@ -7,11 +7,11 @@ use Rattle.biomass.specs.Report.{Report, gives, unless}
 use Rattle.powers.specs.Diameter.{least_d, greatest_d}
 use Rattle.biomass.specs.Limits.{most_measured}
 
--- "400·S": S is in square cm, and 400 squares of half a unit of d make one
+-- "40000·S": S is in square cm, and 40000 squares of half a unit of d make one
 abbrev pub square_scale : ℕ
-square_scale = 400
+square_scale = 40000
 
--- "Mean d: the whole d with (2d−1)²·n ≤ 400·S < (2d+1)²·n."
+-- "Mean d: the whole d with" "(2d−1)²·n ≤ 40000·S < (2d+1)²·n" (document 01, step 2; document 02, Q-5)
 -- `not_cut_off` says that 2d − 1 is not cut off at 0 here
 pub record IsMean (n S d : ℕ) : Type 0 where
   pub not_cut_off : 1 ≤ 2 * d
@@ -27,7 +27,7 @@ odd_is_whole d h = omega arith
 unfoldable pub mean_of : ℕ → ℕ → ℕ
 mean_of n S = greatest (λ d. leb (square (2 * d - 1) * n) (square_scale * S)) greatest_d
 
--- "d 70 to 1000"
+-- d's "range 700 to 10000"
 abbrev pub d_in_range : ℕ → Bool
 d_in_range d = inside least_d d greatest_d
 

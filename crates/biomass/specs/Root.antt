@@ -1,12 +1,12 @@
 -- Step 6, the root.
-use Rattle.std.specs.Prelude.{ℕ, ◌*◌, ◌^◌, List, [], ◌∷◌, ℤ, pos, neg_ℤ}
+use Rattle.std.specs.Prelude.{ℕ, ◌^◌, List, [], ◌∷◌, ℤ, pos, neg_ℤ}
 use Rattle.powers.specs.Greatest.{whole_root}
 use Rattle.biomass.specs.Report.{Report}
 use Rattle.powers.specs.Diameter.{root_limit}
 use Rattle.biomass.specs.Ends.{Ends, entry, part_ends, part}
 use Rattle.biomass.specs.Units.{BiomassRange}
 
--- "Root groups 0 to 5 in Table 5.2.4's order, b in mg. .. Above, as the crown above 500, by Table 5.2.5."
+-- "Root groups 0 to 5 in Table 5.2.4's order, b in mg. .. Above, as the crown above" 5000, "by Table 5.2.5."
 -- Each row: b of Table 5.2.4, then a and b of Table 5.2.5, in mg
 abbrev pub root_table : List (List ℤ)
 root_table =
@@ -32,15 +32,12 @@ line_a g = entry root_table g 1
 abbrev pub line_b : ℕ → ℤ
 line_b g = entry root_table g 2
 
--- The root power is the diameter in cm to the power 5/2. y counts units of 10^-5 of it: in y² they come to 10^10, of which d's unit takes 10^5
-abbrev pub root_shift : ℕ
-root_shift = 5
-
--- "y is the greatest with y² ≤ 10^5·d^5"
+-- The root power is the diameter in cm to the power 5/2. y counts units of 10^-5 of it: in y² they come to 10^10, and d's unit takes all of that, 100^5.
+-- "y is the greatest with" "y² ≤ d^5" (document 01, step 6; document 02, Q-5)
 unfoldable pub y : ℕ → ℕ
-y d = whole_root 2 (10 ^ root_shift * d ^ 5)
+y d = whole_root 2 (d ^ 5)
 
--- "For d ≤ 300, .. low = b·y div 10^5, high = b·(y+1) div 10^5 + 1."
+-- "low = b·y div 10^5, high = b·(y+1) div 10^5 + 1." "The root changes above 3000"
 unfoldable pub root_ends : ℕ → ℕ → Ends
 root_ends g d = part_ends root_table root_limit y (10 ^ 5) g d
 

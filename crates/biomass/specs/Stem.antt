@@ -7,11 +7,11 @@ use Rattle.biomass.specs.Mean.{d_in_range}
 use Rattle.biomass.specs.Ends.{Ends, range}
 use Rattle.biomass.specs.Units.{BiomassRange}
 
--- "div 400000": pi is in units of 10^-8, d of 10^-3 m, and the area, a quarter of pi·d², of 10^-9 m²
+-- "Then G divides by 40000000" (document 02, Q-5): pi is in units of 10^-8, d of 10^-4 m, and the area, a quarter of pi·d², of 10^-9 m²
 abbrev pub area_scale : ℕ
-area_scale = 400000
+area_scale = 40000000
 
--- "G = 314159265·d² div 400000."
+-- "G = 314159265·d² div" 40000000
 abbrev pub G : ℕ → ℕ
 G d = 314159265 * square d / area_scale
 
@@ -41,7 +41,7 @@ stem_ends T d f s =
     let H = VH T d div 10 ^ 8 +ℤ pos 1 in
     record { low = (L *ℤ pos f *ℤ pos s) div 10000; high = (H *ℤ pos f *ℤ pos s) div 10000 +ℤ pos 1 }
 
--- "d 70 to 1000; T 1 to 50"; factor "(1, 100 to 200)"; "specific gravity in hundredths (1, 1 to 100)"
+-- d's "range 700 to 10000"; "T 1 to 50"; factor "(1, 100 to 200)"; "specific gravity in hundredths (1, 1 to 100)"
 unfoldable pub stem : ℕ → ℕ → ℕ → ℕ → Report BiomassRange
 stem T d f s =
     unless (inside 1 T 50) 6

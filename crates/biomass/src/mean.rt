@@ -10,7 +10,7 @@ use super::report::Refusal;
 use powers::diameter::{GREATEST_D, LEAST_D};
 
 // Squares of half a unit of d to the square cm.
-const SQUARE_SCALE: u64 = 400;
+const SQUARE_SCALE: u64 = 40_000;
 
 // How many trees were measured.
 type Measured = Within<1, MOST_MEASURED>;

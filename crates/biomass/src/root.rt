@@ -50,7 +50,7 @@ impl Part for Roots {
     #[tactic(auto, using(crate::proofs::Fits::root_power_fits), unfolding(crate::specs::Root::y, crate::specs::SquareRoot::square_root))]
     fn power(d: Diameter) -> u64 {
         let d = d.number;
-        square_root(100_000 * (d * d * d * d * d)).root
+        square_root(d * d * d * d * d).root
     }
 
     ghost some_units = { Prim.search rules };

@@ -9,8 +9,8 @@ use super::operand::{Diameter, Within};
 use super::report::Refusal;
 use super::units::{BiomassRange, Milligrams, Range};
 
-// Pi is in units of 10^-8, d of 10^-3 m, and the basal area, a quarter of pi times d squared, of 10^-9 m².
-const AREA_SCALE: u64 = 400_000;
+// Pi is in units of 10^-8, d of 10^-4 m, and the basal area, a quarter of pi times d squared, of 10^-9 m².
+const AREA_SCALE: u64 = 40_000_000;
 
 // A line's tariff, the factor from merchantable to total volume and the specific gravity, both in hundredths.
 type Tariff = Within<1, 50>;

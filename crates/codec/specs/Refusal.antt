@@ -20,7 +20,7 @@ number Undeclared = 8
 number LineOpen = 9
 number NoLine = 10
 number Limit = 11
--- "12 no height tree", "13 tariff outside 1 to 50", "14 no factor for d div 10", "15 N over 100,000,000"
+-- "12 no height tree", "13 tariff outside 1 to 50", "14 no factor for d div" 100, "15 N over 100,000,000"
 number NoHeightTree = 12
 number Tariff = 13
 number NoFactor = 14

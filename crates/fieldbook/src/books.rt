@@ -59,8 +59,8 @@ impl Laid for Row {
     }
 }
 
-// The i-th row of a sheet, counted from 0: stratum, species, tariff, mean diameter in tenths of a cm, trees in hundredths,
-// low and high in milligrams of biomass.
+// The i-th row of a sheet, counted from 0: stratum, species, tariff, mean diameter in hundredths of a cm, trees in
+// hundredths, low and high in milligrams of biomass.
 #[unsafe(no_mangle)]
 pub extern "C" fn fieldbook_sheet_row(sheet: &[u8], i: usize, answer: &mut [u64; 7]) -> u8
     ensures refusal { result ≡ refusal (find_row sheet.now i) }

@@ -97,14 +97,14 @@ small_number_of l = trees_of l.small.count l.p l.q
 abbrev pub factor_at : List (Option ℕ) → ℕ → Option ℕ
 factor_at factors cm = get_or factors cm None
 
--- "the factor at d div 10 cm"
+-- "the factor is read at d div 100" (document 02, Q-5)
 abbrev pub whole_cm : ℕ → ℕ
 whole_cm d = d / units_to_cm
 
 abbrev pub factor_for : List (Option ℕ) → ℕ → Option ℕ
 factor_for factors d = factor_at factors (whole_cm d)
 
--- "With f the factor at d div 10 cm and s the gravity": one tree of a line
+-- "With f the factor at d div" 100 "cm and s the gravity": one tree of a line
 abbrev pub tree_with : Species → ℕ → ℕ → ℕ → AverageTree
 tree_with s T d f = average_tree T d f s.gravity s.crown s.root
 

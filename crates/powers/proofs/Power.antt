@@ -1,31 +1,42 @@
--- A table of w: a list that passes one computed test holds w at each diameter of the curve.
-use mathlib.Core.Path.{◌≡◌, ◌∙◌, refl, sym}
-use mathlib.Core.Bool.{Bool, true, false, cond}
-use mathlib.Core.List.{List}
+-- The table of w: its 4,301 entries pass the test of Law.Crown, so at each diameter of the curve it is w that stands in it.
+use mathlib.Core.Path.{◌≡◌, refl, sym}
+use mathlib.Core.Bool.{true}
 use Prim.Native.Nat.{ℕ, ◌+◌, ◌-◌, ◌≤◌}
 use native.Mathlib.Omega.{arith}
-use lib.ListN.{get_or}
+use lib.ListN.{get_or, drop}
 use Rattle.powers.specs.Diameter.{least_d, crown_limit}
-use Rattle.powers.specs.Crown.{tabled}
-use Rattle.powers.proofs.Law.Crown.{tested_w, w_is, tabled_is_w}
-use Rattle.powers.proofs.Table.{every, at}
+use Rattle.powers.specs.Crown.{w}
+use Rattle.powers.specs.declared.crown.TheConstants.{POWER}
+use Rattle.powers.proofs.Law.Scaled.{near, tested}
+use Rattle.powers.proofs.Law.Crown.{tested_w, w_is}
+use Rattle.powers.proofs.Table.{every, at, joined}
 
--- the number of diameters on the curve
-abbrev powers : ℕ
-powers = crown_limit - least_d + 1
+-- The test, in four stretches: if antt computed all of it at once, it would need twice the memory
+from_7_cm : every tested_w 700 1100 POWER ≡ true
+unfolding tested near
+from_7_cm = refl
 
-unfoldable pub holds_w : List ℕ → Bool
-holds_w = every tested_w least_d powers
+from_18_cm : every tested_w 1800 1100 (drop 1100 POWER) ≡ true
+unfolding tested near
+from_18_cm = refl
 
--- What is read from a list that passes is the table's. It is put as an equation that is so of any list, one that fails too: so the code's list is
--- found in the goal where it is used, and stands nowhere a second time.
-pub read_is_w : (xs : List ℕ) (d : ℕ) → least_d ≤ d → d ≤ crown_limit →
-    get_or xs (d - least_d) 0 ≡ cond (holds_w xs) (tabled d) (get_or xs (d - least_d) 0)
-unfolding holds_w
-read_is_w xs d low high = by_test (holds_w xs) refl
-  where
-    by_test : (b : Bool) → holds_w xs ≡ b → get_or xs (d - least_d) 0 ≡ cond b (tabled d) (get_or xs (d - least_d) 0)
-    by_test false t = refl
-    by_test true t =
-        let place : least_d + (d - least_d) ≡ d = omega arith in
-        sym (tabled_is_w refl low high ∙ w_is d (get_or xs (d - least_d) 0) (rw place at (at tested_w least_d powers xs t (d - least_d) (omega arith))))
+from_29_cm : every tested_w 2900 1100 (drop 2200 POWER) ≡ true
+unfolding tested near
+from_29_cm = refl
+
+from_40_cm : every tested_w 4000 1001 (drop 3300 POWER) ≡ true
+unfolding tested near
+from_40_cm = refl
+
+whole_table : every tested_w least_d 4301 POWER ≡ true
+whole_table =
+    joined tested_w 700 1100 3201 POWER from_7_cm
+    (joined tested_w 1800 1100 2101 (drop 1100 POWER) from_18_cm
+    (joined tested_w 2900 1100 1001 (drop 2200 POWER) from_29_cm from_40_cm))
+
+-- what stands in the table for a diameter of the curve
+pub power_is_w : (d : ℕ) → least_d ≤ d → d ≤ crown_limit → get_or POWER (d - least_d) 0 ≡ w d
+power_is_w d low high =
+    let place : least_d + (d - least_d) ≡ d = omega arith in
+    let passed = rw place at (at tested_w least_d 4301 POWER whole_table (d - least_d) (omega arith)) in
+    sym (w_is d (get_or POWER (d - least_d) 0) passed)

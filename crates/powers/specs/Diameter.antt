@@ -1,21 +1,21 @@
 -- The unit of a diameter d, its range, and where the crown and the root change from a curve to a straight line: src/diameter.rt.
 use Rattle.std.specs.Prelude.{ℕ}
 
--- "d = tenths of a cm": so many of them to the cm
+-- "d becomes hundredths" of a cm (document 02, Q-5): so many of them to the cm
 abbrev pub units_to_cm : ℕ
-units_to_cm = 10
+units_to_cm = 100
 
--- "d 70 to 1000"
+-- "range 700 to 10000"
 abbrev pub least_d : ℕ
-least_d = 70
+least_d = 700
 
 abbrev pub greatest_d : ℕ
-greatest_d = 1000
+greatest_d = 10000
 
--- The greatest d on the crown's curve: "For d ≤ 500, .."
+-- The greatest d on the crown's curve: "The crown changes equation above 5000"
 abbrev pub crown_limit : ℕ
-crown_limit = 500
+crown_limit = 5000
 
--- and on the root's: "For d ≤ 300, .."
+-- and on the root's: "The root changes above 3000"
 abbrev pub root_limit : ℕ
-root_limit = 300
+root_limit = 3000

@@ -54,6 +54,7 @@
 --     SmallTrees: both_totalled, both_between, small_totalled   of books with small trees, beside measured ones and alone, demand 3 says something
 --     Areas: whole_area_totalled, nothing_totalled, listing_recorded     and so does what Q-4 lets a user read, of books with trees and of one without
 --     Areas: above_by_one_refused, seventeen_first                 plots greater by one are refused with 17, before 9 and 8
+--     WholeCm: factor_at_60_refused, factor_at_59_taken, taken_sheet     a mean of 59.96 cm has the factor at 59 cm, and 14 where only the one at 60 is given
 --     Witness                                 two of the wrong programs again, at one command, and that what applying promises contradicts them
 
 -- a command's bytes, and books
@@ -85,6 +86,7 @@ pub mod NotVacuous
 pub mod Listing
 pub mod Marked
 pub mod WrongPrograms
--- books with small trees (document 02, Q-1), and of what areas a line may be (Q-4)
+-- books with small trees (document 02, Q-1), of what areas a line may be (Q-4), and with a mean between two tenths (Q-5)
 pub mod SmallTrees
 pub mod Areas
+pub mod WholeCm

@@ -28,7 +28,7 @@ numbers_of (Command.Open stratum species p q) = 5 ∷ 6 ∷ 17 ∷ 9 ∷ 8 ∷ 7
 numbers_of (Command.Measured class count) = 5 ∷ 10 ∷ 6 ∷ 11 ∷ []
 -- "Height: 10; 6; 13 tariff outside 1 to 50; 11."
 numbers_of (Command.Height cm tenths) = 5 ∷ 10 ∷ 6 ∷ 13 ∷ 11 ∷ []
--- "Closing: 10; then, where n > 0, 12 no height tree; 14 no factor for d div 10; 15 N over 100,000,000."
+-- "Closing: 10; then, where n > 0, 12 no height tree; 14 no factor for d div" 100; "15 N over 100,000,000."
 numbers_of Command.Close = 5 ∷ 10 ∷ 12 ∷ 14 ∷ 15 ∷ []
 -- "Ending: 9."
 numbers_of Command.End = 5 ∷ 9 ∷ []

@@ -48,7 +48,7 @@ listing = encode_all listing_commands
 
 -- "1 3 24.00 50288870208 50288870425". T and d, which are not printed, are those of steps 1 and 2
 abbrev pub row1 : Row
-row1 = record { stratum = 1; species = 3; tariff = 26; d = 600; trees = 2400; biomass = between 50288870208 50288870425 }
+row1 = record { stratum = 1; species = 3; tariff = 26; d = 6000; trees = 2400; biomass = between 50288870208 50288870425 }
 
 -- "2 3 0.00 0 0": "A line with n = 0 closes with tariff, d, N, low and high all 0"
 abbrev pub row2 : Row

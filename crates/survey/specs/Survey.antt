@@ -128,7 +128,7 @@ give_small carbon count s =
     add_small carbon count l then λ m.
     gives (with_line s m))
 
--- "the factor at d div 10 cm" of a line; 0 where none was given, and then no line with measured trees closes
+-- "The factor is read at d div 100" (document 02, Q-5): that of a line; 0 where none was given, and then no line with measured trees closes
 abbrev pub f_of : List (Option ℕ) → Line → ℕ
 f_of factors l = unwrap_or (factor_for factors (d_of l)) 0
 
@@ -156,7 +156,7 @@ close_small s l =
     unless (leb (small_number_of l) most_estimated) 15
     (gives (with_row s (closing_row s.factors l)))
 
--- "Closing: 10; then, where n > 0, 12 no height tree; 14 no factor for d div 10; 15 N over 100,000,000."
+-- "Closing: 10; then, where n > 0, 12 no height tree; 14 no factor for d div" 100; "15 N over 100,000,000."
 unfoldable pub close : Survey → Report Survey
 close s =
     when s.ended 5

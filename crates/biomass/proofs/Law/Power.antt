@@ -1,15 +1,15 @@
 -- What is known of step 5's w and step 6's y.
--- Both are roots: w^m ≤ 10^c·d^e < (w + 1)^m, where m, c, e are crown_degree, crown_shift, crown_exponent for the crown and 2, root_shift, 5 for the
--- root. There are u = units_to_cm = 10 units of d to the cm, and c + e is 5·m in both, so that 10^c·u^e is (10^5)^m. So where r/t is not below the
+-- Both are roots: w^m ≤ 10^c·d^e < (w + 1)^m, where m, c, e are crown_degree, crown_shift, crown_exponent for the crown and 2, 0, 5 for the root. There
+-- are u = units_to_cm = 10^2 units of d to the cm, and c + 2·e is 5·m in both, so that 10^c·u^e is (10^5)^m. So where r/t is not below the
 -- power, t^m·d^e ≤ r^m·u^e, and (w·t)^m ≤ (10^5·r)^m follows, hence w·t ≤ 10^5·r; the other end goes the same way, and w and w + 1, over
 -- 10^5, are themselves such fractions. This is shown once, for any m, c and e, so that no such power is computed. Both rise with d.
 use Rattle.std.specs.Prelude.{◌≡◌, refl, ℕ, zero, suc, ◌+◌, ◌*◌, ◌^◌, ◌≤◌, ◌<◌}
 use Rattle.std.proofs.Math.Nat.{pow-zero, pow-lt-pow_left, pow-le-pow_left, one-le-pow, mul-mul-mul_comm}
-use Rattle.std.proofs.Common.{pow-suc, le_trans, mul-le-mul_left, mul-le-mul_right, le_of_mul-le-mul_right, mul-suc, mul-zero, not-le_of_lt, lt_of_not-le, le_of_suc-le-suc, le_of_eq, arith, lit<, lit≤, pow-add}
+use Rattle.std.proofs.Common.{pow-suc, one-mul, le_trans, mul-le-mul_left, mul-le-mul_right, le_of_mul-le-mul_right, mul-suc, mul-zero, not-le_of_lt, lt_of_not-le, le_of_suc-le-suc, le_of_eq, arith, lit<, lit≤, pow-add}
 use Rattle.powers.specs.Greatest.{whole_root}
 use Rattle.powers.specs.Diameter.{units_to_cm, crown_limit, root_limit}
 use Rattle.powers.specs.Crown.{crown_exponent, crown_degree, crown_shift, w}
-use Rattle.biomass.specs.Root.{root_shift, y}
+use Rattle.biomass.specs.Root.{y}
 use Rattle.biomass.specs.Exact.{Given, NotBelowCrown, NotAboveCrown, NotBelowRoot, NotAboveRoot}
 use Rattle.powers.proofs.Law.Greatest.{square_root_is, whole_root_not_above, whole_root_below, whole_root_rises}
 use Rattle.powers.proofs.Law.Scaled.{near, tested}
@@ -39,10 +39,10 @@ ordered m e d r t r' t' positive h k =
 
 -- ---- a root of 10^c·d^e
 
-module _ (m c e : ℕ) (positive : 0 < m) (five : c + e ≡ 5 * m) where
+module _ (m c e : ℕ) (positive : 0 < m) (five : c + 2 * e ≡ 5 * m) where
   -- 10^5 to the power m, its tens parted into those of 10^c and those of the unit
   tens : (10 ^ 5) ^ m ≡ 10 ^ c * units_to_cm ^ e
-  tens = rw (pow_mul 10 5 m, ← five, pow-add)
+  tens = rw (pow_mul 10 5 m, ← five, pow-add, pow_mul 10 2 e)
 
   tens_of : (r : ℕ) → (10 ^ 5 * r) ^ m ≡ 10 ^ c * (r ^ m * units_to_cm ^ e)
   tens_of r = rw (mul_pow, tens) (omega arith)
@@ -114,34 +114,38 @@ w_most d h = le_trans (w_rises h) (le_of_eq (w_is crown_limit greatest_w refl))
 
 -- ---- y
 
+-- d^5 as 10^0·d^5
+alone : (d : ℕ) → 10 ^ 0 * d ^ 5 ≡ d ^ 5
+alone d = one-mul (d ^ 5)
+
 -- the same of the root power and y
 pub root_power_not_under : (d : ℕ) (p : Given) → NotBelowRoot d p → y d * p.t ≤ 10 ^ 5 * p.r
 unfolding y
-root_power_not_under d p h = not_under 2 root_shift 5 (lit< tt) refl d p.r p.t h.ge
+root_power_not_under d p h = rw alone at (not_under 2 0 5 (lit< tt) refl d p.r p.t h.ge)
 
 pub root_power_not_over : (d : ℕ) (p : Given) → NotAboveRoot d p → 10 ^ 5 * p.r ≤ (y d + 1) * p.t
 unfolding y
-root_power_not_over d p h = not_over 2 root_shift 5 (lit< tt) refl d p.r p.t h.le
+root_power_not_over d p h = rw alone at (not_over 2 0 5 (lit< tt) refl d p.r p.t h.le)
 
 pub root_powers_ordered : (d : ℕ) (p q : Given) → NotAboveRoot d p → NotBelowRoot d q → p.r * q.t ≤ q.r * p.t
 root_powers_ordered d p q h k = ordered 2 5 d p.r p.t q.r q.t (lit< tt) h.le k.ge
 
 pub y_not_above : (d : ℕ) → NotAboveRoot d (units (y d))
 unfolding y
-y_not_above d = record { le = root_not_over 2 root_shift 5 (lit< tt) refl d }
+y_not_above d = record { le = rw alone at (root_not_over 2 0 5 (lit< tt) refl d) }
 
 pub next_y_not_below : (d : ℕ) → NotBelowRoot d (units (y d + 1))
 unfolding y
-next_y_not_below d = record { ge = next_not_under 2 root_shift 5 (lit< tt) refl d }
+next_y_not_below d = record { ge = rw alone at (next_not_under 2 0 5 (lit< tt) refl d) }
 
 y_rises : {d d' : ℕ} → d ≤ d' → y d ≤ y d'
 unfolding y
-y_rises = rises 2 root_shift 5 (lit< tt) refl
+y_rises h = whole_root_rises 2 (lit< tt) (pow-le-pow_left h 5)
 
 -- y is the number between whose square and the next one's the power lies, so that it need not be computed
-pub y_is : (d r : ℕ) → r * r ≤ 10 ^ root_shift * d ^ 5 → 10 ^ root_shift * d ^ 5 < (r + 1) * (r + 1) → y d ≡ r
+pub y_is : (d r : ℕ) → r * r ≤ d ^ 5 → d ^ 5 < (r + 1) * (r + 1) → y d ≡ r
 unfolding y
-y_is d r le lt = square_root_is (10 ^ root_shift * d ^ 5) r le lt
+y_is d r le lt = square_root_is (d ^ 5) r le lt
 
 -- the greatest y of a curve's diameter
 abbrev pub greatest_y : ℕ

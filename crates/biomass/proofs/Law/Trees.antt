@@ -1,6 +1,6 @@
 -- Laws of step 3, the number of trees (document 02, Q-4): with plots within the net area no tree that is recorded is lost on the way, and of none none are
 -- made. Step 3 by itself takes any areas, and with greater plots it can make none of some (`lost`).
-use Rattle.std.specs.Prelude.{ℕ, ◌+◌, ◌*◌, ◌≤◌, ◌<◌, ◌≡◌, refl}
+use Rattle.std.specs.Prelude.{ℕ, ◌*◌, ◌≤◌, ◌<◌, ◌≡◌, refl}
 use Rattle.std.proofs.Common.{mul-le-mul_left, arith}
 use Rattle.std.proofs.Math.Nat.{div-eq_of_lt}
 use Rattle.std.proofs.lemmas.Nat.{le-div}

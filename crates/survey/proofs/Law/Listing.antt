@@ -46,7 +46,7 @@ listing_survey =
 
 -- its lines, as demand 3 takes them
 abbrev pub listing_lines : List Estimate
-listing_lines = record { measured = record { N = 2400; tree = tree_with listed 26 600 101 }; small = record { number = 0; carbon = 0 } } ∷ no_trees ∷ []
+listing_lines = record { measured = record { N = 2400; tree = tree_with listed 26 6000 101 }; small = record { number = 0; carbon = 0 } } ∷ no_trees ∷ []
 
 -- ---- and that it does
 

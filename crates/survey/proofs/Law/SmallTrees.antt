@@ -54,7 +54,7 @@ both_totalled sheet room = total_applied both_sorts sheet ∙ rw (le-ltb (length
 
 -- its line, as demand 3 takes it, has trees of both sorts
 abbrev pub both_lines : List Estimate
-both_lines = record { measured = record { N = 2400; tree = tree_with listed 26 600 101 }; small = record { number = 173400; carbon = 1575600 } } ∷ []
+both_lines = record { measured = record { N = 2400; tree = tree_with listed 26 6000 101 }; small = record { number = 173400; carbon = 1575600 } } ∷ []
 
 pub both_lines_lem : lines_of both_sorts ≡ both_lines
 unfolding

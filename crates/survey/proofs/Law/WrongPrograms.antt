@@ -167,6 +167,6 @@ zero_low_not_demand_3 high demand =
     any = record { crown = λ i. one; root = λ i. one }
 
     no_powers : NoneAbove any listing_lines
-    no_powers zero some = record { on_crown = λ (h : 600 ≤ crown_limit). absurd (omega arith); on_root = λ (h : 600 ≤ root_limit). absurd (omega arith) }
+    no_powers zero some = record { on_crown = λ (h : 6000 ≤ crown_limit). absurd (omega arith); on_root = λ (h : 6000 ≤ root_limit). absurd (omega arith) }
     no_powers (suc zero) some = absurd (omega arith)
     no_powers (suc (suc i)) some = absurd (omega arith)

@@ -1,8 +1,8 @@
--- `crown_power`: antt computes the test of Law.Scaled at each of the table's entries.
-use Rattle.std.proofs.Common.{arith, refl}
-use Rattle.powers.proofs.Law.Scaled.{near, tested}
-use Rattle.powers.proofs.Power.{holds_w, read_is_w}
+-- `crown_power` meets its contract: on the curve it looks the power up in the table, where w stands (proofs/Power.antt).
+use Rattle.std.proofs.Common.{◌∙◌, refl, sym, arith}
+use Rattle.powers.proofs.Law.Crown.{tabled_is_w}
+use Rattle.powers.proofs.Power.{power_is_w}
 use Rattle.powers.proofs.crown.crown_power.Goals as goal
 
-pub returns-in-70-to-500 : goal.returns-in-70-to-500
-returns-in-70-to-500 c = rw (read_is_w _ c.args.d (omega arith) (omega arith)) (unfold holds_w tested near in refl)
+pub returns-in-700-to-5000 : goal.returns-in-700-to-5000
+returns-in-700-to-5000 c = c.from.ensures ∙ power_is_w c.args.d (omega arith) (omega arith) ∙ sym (tabled_is_w refl (omega arith) (omega arith))
