@@ -7,6 +7,7 @@
 --     Power: w_not_above, next_w_not_below    and there are such fractions: w units of 10^-5 and w + 1 of them; of y too
 --     Tree: row_bounds, tree_bounds           how far apart the ends are, and how great they can be; the parts' are stem_bounded, crown_bounded, root_bounded
 --     Mean: mean_gives, mean_is, mean_only    a mean that is given is step 2's d, the only one, and in d's range
+--     Mean: mean_between_classes              and from the least class of the trees to the greatest
 --     Tariff: single_tariff_range, line_tariff_range      a tariff that is given is 1 to 50
 --     Trees: none_lost, none_made             with plots within the net area no tree is lost in step 3, and of none none are made; with greater ones some can be (`lost`)
 --     Answers                                 operands in their ranges are answered, and with what

@@ -1,11 +1,11 @@
 -- Laws of the mean: the definition's d is the d of step 2, it is the only one, and it is in d's range.
 -- Odd numbers and their squares rise with d, so there is one d at which step 2's first inequality holds for the last time.
-use Rattle.std.specs.Prelude.{ℕ, ◌+◌, ◌-◌, ◌*◌, ◌≤◌, ◌<◌, ◌≡◌, Bool, leb}
+use Rattle.std.specs.Prelude.{ℕ, suc, ◌+◌, ◌-◌, ◌*◌, ◌≤◌, ◌<◌, ◌≡◌, Bool, leb}
 use Rattle.std.proofs.Common.{mul-le-mul, mul-le-mul_right, le_trans, lt_of_lt_of_le, lt_of_not-le, lt_irrefl, not-le_of_lt, le_of_suc-le-suc, arith, sym, subst}
 use borrow.Author.Tests.{le-leb, lt-leb, leb-true}
 use Rattle.biomass.specs.Whole.{square}
 use Rattle.biomass.specs.Report.{gives}
-use Rattle.powers.specs.Diameter.{least_d, greatest_d}
+use Rattle.powers.specs.Diameter.{units_to_cm, least_d, greatest_d}
 use Rattle.biomass.specs.Limits.{most_measured}
 use Rattle.biomass.specs.Mean.{square_scale, IsMean, mean_of, mean}
 use Rattle.powers.proofs.Law.Greatest.{greatest_is, greatest_passes, le_greatest}
@@ -69,6 +69,18 @@ module _ (n S : ℕ) (trees : Inside 1 n most_measured) (squares : Inside (49 * 
 
   pub mean_range : Inside least_d (mean_of n S) greatest_d
   mean_range = record { least = from_least; most = to_greatest (mean_of n S) holds }
+
+  -- It lies between the least class of the trees and the greatest, a and b: so the factor for it is at a whole cm from a to b
+  pub mean_between_classes : (a b : ℕ) → square a * n ≤ S → S ≤ square b * n → Inside (units_to_cm * a) (mean_of n S) (units_to_cm * b)
+  mean_between_classes a b least greatest =
+      record {
+        least =
+            let odd : 2 * (units_to_cm * a) - 1 ≤ 2 * (units_to_cm * a) = omega arith in
+            is_greatest (units_to_cm * a) (omega (arith, mul-le-mul_right n (mul-le-mul odd odd), least));
+        most = le_of_suc-le-suc (lt_of_not-le (λ (above : suc (units_to_cm * b) ≤ mean_of n S).
+            let odd : 2 * (units_to_cm * b) + 1 ≤ 2 * mean_of n S - 1 = omega arith in
+            omega (arith, mul-le-mul_right n (mul-le-mul odd odd), holds, greatest, trees.least)));
+      }
 
   -- and no other number is
   pub mean_only : (d : ℕ) → IsMean n S d → d ≡ mean_of n S
