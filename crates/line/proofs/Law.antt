@@ -4,7 +4,8 @@
 --     Estimate: estimate_bounds        how far apart these are, and how great they can be
 --     Estimate: estimate_den           the exact value's denominator is above 0
 --     SmallTrees: small_alone_lem         a small-tree command looks at the line's small trees alone, and changes these alone
---     Factor: factor_in_classes, classes_tallied, no_classes     the factor is read at a whole cm from the least class of the measured trees to the greatest
+--     Factor: factor_in_classes, factor_there     the factor is read at a whole cm from the least class of the measured trees to the greatest, and is there where all of
+--                                      these are; `classes_tallied`: of any trees
 pub mod Row
 pub mod Estimate
 pub mod SmallTrees

@@ -70,7 +70,11 @@ module _ (n S : ℕ) (trees : Inside 1 n most_measured) (squares : Inside (49 * 
   pub mean_range : Inside least_d (mean_of n S) greatest_d
   mean_range = record { least = from_least; most = to_greatest (mean_of n S) holds }
 
-  -- It lies between the least class of the trees and the greatest, a and b: so the factor for it is at a whole cm from a to b
+  -- and no other number is
+  pub mean_only : (d : ℕ) → IsMean n S d → d ≡ mean_of n S
+  mean_only d is = sym (mean_between n S d (to_greatest d is.not_above) is.not_above (rw next_odd is.below))
+
+  -- it lies between the least class of the trees and the greatest, a and b
   pub mean_between_classes : (a b : ℕ) → square a * n ≤ S → S ≤ square b * n → Inside (units_to_cm * a) (mean_of n S) (units_to_cm * b)
   mean_between_classes a b least greatest =
       record {
@@ -81,10 +85,6 @@ module _ (n S : ℕ) (trees : Inside 1 n most_measured) (squares : Inside (49 * 
             let odd : 2 * (units_to_cm * b) + 1 ≤ 2 * mean_of n S - 1 = omega arith in
             omega (arith, mul-le-mul_right n (mul-le-mul odd odd), holds, greatest, trees.least)));
       }
-
-  -- and no other number is
-  pub mean_only : (d : ℕ) → IsMean n S d → d ≡ mean_of n S
-  mean_only d is = sym (mean_between n S d (to_greatest d is.not_above) is.not_above (rw next_odd is.below))
 
 -- what the layer above is given: a mean that is given is step 2's, and is in d's range
 pub record MeanGives (n S d : ℕ) : Type 0 where
