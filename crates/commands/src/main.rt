@@ -12,7 +12,7 @@ ghost use Rattle.commands.specs.Words.{constants, declared, words};
 
 use biomass::tariff::Constants;
 use codec::command::{Command, Species};
-use console::{Output, RefusalLine, print_of_book};
+use console::{Output, PrintsBook, RefusalLine, print_of_book};
 use std::fmt::{Display, Formatter};
 use std::io::Write;
 use std::{fmt, io};
@@ -87,19 +87,25 @@ fn print_commands<W: Write + Drop>(
     Ok(())
 }
 
-fn print_book<W: Write + Drop>(output: &mut Output<W>, book: &[u8]) -> io::Result<()> {
-    let Extent { commands, at, why } = read_through(book, 0);
-    print_commands(output, book, commands)?;
-    writeln!(output, "commands {commands} bytes {at}")?;
-    // After the last byte there is no command to refuse.
-    if at < book.len() {
-        let number = why.number();
-        write!(output, "{}", RefusalLine { number, at })?;
+// The commands of a book, how far it reads, and where that is not its end, why.
+#[derive(Clone, Copy)]
+struct CommandList;
+
+impl<W: Write + Drop> PrintsBook<W> for CommandList {
+    fn print(self, output: &mut Output<W>, book: &[u8]) -> io::Result<()> {
+        let Extent { commands, at, why } = read_through(book, 0);
+        print_commands(output, book, commands)?;
+        writeln!(output, "commands {commands} bytes {at}")?;
+        // After the last byte there is no command to refuse.
+        if at < book.len() {
+            let number = why.number();
+            write!(output, "{}", RefusalLine { number, at })?;
+        }
+        Ok(())
     }
-    Ok(())
 }
 
 fn main(rt: HostRuntime) {
     // A write that fails ends the text, and the status does not tell.
-    let _ = print_of_book(&mut rt.stdin(), Output::new(&rt), print_book);
+    let _ = print_of_book(&mut rt.stdin(), Output::new(&rt), CommandList);
 }

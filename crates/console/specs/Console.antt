@@ -1,6 +1,5 @@
 -- Input and output of the programs.
-use Rattle.std.specs.Prelude.{◌≡◌, ℕ, List, ◌∷◌, [], ◌++◌, Option, codes}
-use Rattle.std.specs.Borrow.{Bor, MutBor}
+use Rattle.std.specs.Prelude.{ℕ, List, ◌∷◌, [], ◌++◌, Option, codes}
 use Rattle.std.specs.Fmt.{decimal}
 use Rattle.std.specs.Io.Buffered.{writer_contents, writer_inner}
 use Rattle.std.specs.Io.KnownBytes.{Appends}
@@ -27,8 +26,6 @@ module _ {W : Type 0} where
   abbrev pub Prints : (W → Option (List ℕ)) → Output W → Output W → List ℕ → Type 0
   Prints contents old new bs = Appends (printed contents old) (printed contents new) bs
 
-  -- a routine that prints a book, called with the output old and the book bs, may leave the output new
-  abbrev pub PrintedBy : {R : Type 0} → (MutBor (Output W) → Bor (List ℕ) → R → MutBor (Output W) → Type 0) → Output W → List ℕ → Output W → Type 0
-  PrintedBy {R} post old bs new =
-      (given : MutBor (Output W)) × (book : Bor (List ℕ)) × (answer : R) × (left : MutBor (Output W))
-      × post given book answer left × (given.now ≡ old) × (book.now ≡ bs) × (left.now ≡ new)
+  -- what prints a book, lent the output old and the book bs, may leave the output new
+  abbrev pub PrintedBy : {R : Type 0} → (Output W → List ℕ → R → Output W → Type 0) → Output W → List ℕ → Output W → Type 0
+  PrintedBy {R} prints old bs new = (answer : R) × prints old bs answer new

@@ -1,7 +1,7 @@
 // What the programs share: a book from standard input, and text to standard output that stops where a write fails.
 #![tactic(auto)]
 
-ghost use Rattle.std.specs.Prelude.{List, ℕ, ◌≡◌, ◌≤◌, ◌↔◌, ◌<◌, true, false, length, take, codes, Some, IsErr, is_ok, OnOk, IfSome, IfOk};
+ghost use Rattle.std.specs.Prelude.{List, ℕ, ⊤, Result, ◌≡◌, ◌≤◌, ◌↔◌, ◌<◌, true, false, length, take, codes, Some, IsErr, is_ok, OnOk, IfSome, IfOk};
 ghost use Rattle.std.specs.Io.Buffered.{writer_contents};
 ghost use Rattle.std.specs.Io.KnownBytes.{Keeps, Consumes};
 ghost use Rattle.console.specs.Console.{most_bytes, PrintedBy, Prints, printed, refusal_line, writer_of};
@@ -136,18 +136,26 @@ impl<W: Write + Drop> Output<W> {
     }
 }
 
-// What a program does: reads a book and lends it to `print`, or says that it is too long, and finishes the output. Alone of all
-// public routines it has a `requires`, which the language asks of whoever calls a closure: that this one may be called.
-pub fn print_of_book<I: Read, W: Write + Drop, F>(
+// What a program prints of a book, on an output that is lent with it.
+pub trait PrintsBook<W: Write + Drop> {
+    ghost use Rattle.std.specs.declared.io.Error.{Error};
+    ghost use Rattle.console.specs.declared.Output.{Output};
+
+    // Whether, lent the first output and the book, it may answer so and leave the second. Where an `impl` says nothing, it may leave any.
+    ghost prints: { Self → Output W → List ℕ → Result ⊤ Error → Output W → Type 0 } = { λ _ _ _ _ _. ⊤ };
+
+    fn print(self, output: &mut Output<W>, book: &[u8]) -> io::Result<()>
+        ensures { prints self output.old book.now result output.new };
+}
+
+// What a program does: reads a book and lends it to what prints it, or says that it is too long, and finishes the output.
+pub fn print_of_book<I: Read, W: Write + Drop, P: PrintsBook<W> + Drop>(
     input: &mut I,
     mut output: Output<W>,
-    print: F,
+    printer: P,
 ) -> (W, bool)
-where
-    F: FnOnce(&mut Output<W>, &[u8]) -> io::Result<()>,
-    requires { F.IsAlwaysCallable print }
     ensures { (bytes : List ℕ) × (last : Output W) × Consumes (I.remaining input.old) (I.remaining input.new) bytes
-        × (length bytes ≤ most_bytes → PrintedBy (F.post print) output bytes last)
+        × (length bytes ≤ most_bytes → PrintedBy (P.prints printer) output bytes last)
         × (most_bytes < length bytes → last.good ≡ true → Prints W.contents output last (codes "too long\n"))
         × (result.1 ≡ true → (last.good ≡ true) × Keeps (printed W.contents last) (W.contents result.0)) }
 {
@@ -155,7 +163,7 @@ where
     let n = read_input(input, &mut buffer);
     // Whether a write failed, the output knows.
     let _ = match book(&buffer[..n]) {
-        Ok(book) => print(&mut output, book),
+        Ok(book) => printer.print(&mut output, book),
         Err(too_long) => write!(output, "{too_long}"),
     };
     output.finish()

@@ -6,7 +6,7 @@
 ghost use Rattle.std.specs.Prelude.{Some};
 ghost use Rattle.sheet.specs.Lines.{estimate, project_line, row_line, two_places};
 
-use console::{Output, RefusalLine, print_of_book};
+use console::{Output, PrintsBook, RefusalLine, print_of_book};
 use line::row::Row;
 use std::fmt::{Display, Formatter};
 use std::io::Write;
@@ -94,21 +94,27 @@ fn print_rows<W: Write + Drop>(
     Ok(())
 }
 
-fn print_sheet<W: Write + Drop>(output: &mut Output<W>, book: &[u8]) -> io::Result<()> {
-    let mut sheet = [0u8; SHEET_LENGTH];
-    match total(book, &mut sheet) {
-        Ok(totals) => {
-            print_rows(output, &sheet, totals.rows)?;
-            writeln!(output, "{}", ProjectLine(totals))
-        }
-        Err(Stopped { why, at }) => {
-            let number = why.number();
-            write!(output, "{}", RefusalLine { number, at })
+// The sheet of a book, or its refusal.
+#[derive(Clone, Copy)]
+struct Sheet;
+
+impl<W: Write + Drop> PrintsBook<W> for Sheet {
+    fn print(self, output: &mut Output<W>, book: &[u8]) -> io::Result<()> {
+        let mut sheet = [0u8; SHEET_LENGTH];
+        match total(book, &mut sheet) {
+            Ok(totals) => {
+                print_rows(output, &sheet, totals.rows)?;
+                writeln!(output, "{}", ProjectLine(totals))
+            }
+            Err(Stopped { why, at }) => {
+                let number = why.number();
+                write!(output, "{}", RefusalLine { number, at })
+            }
         }
     }
 }
 
 fn main(rt: HostRuntime) {
     // A write that fails ends the text, and the status does not tell.
-    let _ = print_of_book(&mut rt.stdin(), Output::new(&rt), print_sheet);
+    let _ = print_of_book(&mut rt.stdin(), Output::new(&rt), Sheet);
 }
