@@ -29,7 +29,8 @@ def items():
             if head:
                 end = at
                 if not re.search(r'[;}]$', lines[at - 1]):
-                    while lines[end] != head.group(1) + '}' and not lines[end].endswith(' {}'):
+                    # A method without a body ends with its last clause.
+                    while lines[end] != head.group(1) + '}' and not re.search(r' \{\}$|^ *ensures\b.*\};$', lines[end]):
                         end += 1
                     end += 1
                 yield path.relative_to(root), head.group(2), head.group(3), lines[at - 1:end]
