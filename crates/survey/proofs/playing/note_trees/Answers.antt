@@ -17,7 +17,7 @@ loop-command-init c = record { onwards = omega arith; inside = omega (arith, c.r
 
 pub returns-in_default-command : goal.returns-in_default-command
 returns-in_default-command c =
-    record { place = (c.loop-command.invariant.onwards, c.loop-command.invariant.inside); plays = c.loop-command.invariant.plays }
+    record { place = (omega arith, omega arith); plays = c.loop-command.invariant.plays }
 
 pub returns-clause-place : goal.returns-clause-place
 returns-clause-place c = (c.loop-command.invariant.onwards, c.loop-command.invariant.inside)
