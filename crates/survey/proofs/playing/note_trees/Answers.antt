@@ -1,6 +1,6 @@
 -- `survey::playing::note_trees` meets its contract: each command that is noted of the line is noted of every survey whose open line it is, and one that is
 -- refused leaves the line as it was.
-use Rattle.std.proofs.Common.{◌≡◌, sym, ap, ap₂, ◌∙◌, subst, arith}
+use Rattle.std.proofs.Common.{◌≡◌, ℕ, sym, ap, ap₂, ◌∙◌, subst, arith}
 use Rattle.biomass.specs.Report.{report, gives, after}
 use Rattle.codec.specs.Refusal.{number}
 use Rattle.codec.specs.Reading.{read}
@@ -17,7 +17,11 @@ loop-command-init c = record { onwards = omega arith; inside = omega (arith, c.r
 
 pub returns-in_default-command : goal.returns-in_default-command
 returns-in_default-command c =
-    record { place = (omega arith, omega arith); plays = c.loop-command.invariant.plays }
+    let noted_to = PlaysOn c.args.book.now c.args.from c.args.line.now in
+    record {
+      place = (omega arith, omega arith);
+      plays = subst (λ (k : ℕ). noted_to k c.loop-command.line) (omega arith) c.loop-command.invariant.plays;
+    }
 
 pub returns-clause-place : goal.returns-clause-place
 returns-clause-place c = (c.loop-command.invariant.onwards, c.loop-command.invariant.inside)

@@ -1,7 +1,8 @@
 -- `survey::playing::play` meets its contract: it begins with the fresh survey. The rest is what `pass_trees` and `step` promise.
-use Rattle.std.proofs.Common.{sym, ◌∙◌, arith}
+use Rattle.std.proofs.Common.{sym, ap, ◌∙◌, arith}
+use Rattle.codec.specs.Refusal.{number}
 use Rattle.survey.specs.Survey.{fresh}
-use Rattle.survey.specs.Playing.{play}
+use Rattle.survey.specs.Playing.{stopped, play}
 use Rattle.survey.proofs.Law.Playing.{plays_past_end}
 use Rattle.survey.proofs.playing.play.Goals as goal
 
@@ -15,7 +16,7 @@ lines-init c =
 pub returns-in-Err : goal.returns-in-Err
 returns-in-Err c =
     let trees = c.pass_trees-at.ensures in
-    sym (c.in-Err.ensures trees.open) ∙ trees.plays ∙ c.loop-next.invariant.plays
+    ap (stopped (number c.in-Err.why)) (omega arith) ∙ sym (c.in-Err.ensures trees.open) ∙ trees.plays ∙ c.loop-next.invariant.plays
 
 -- and after 07 the first byte
 pub returns-else-book-at : goal.returns-else-book-at
