@@ -1,4 +1,5 @@
 // What a declaration, a factor, an opening and the end decline, by the values that they look at. Of the crates below only the promises are used here.
 #![tactic(auto)]
 
+pub mod change;
 pub mod checks;

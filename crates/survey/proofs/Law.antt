@@ -71,6 +71,7 @@ pub mod Stable
 pub mod Valid
 pub mod Named
 pub mod Limit
+pub mod Change
 pub mod Witness
 -- whole books, played from a fresh survey
 pub mod Playing

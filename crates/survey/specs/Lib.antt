@@ -10,6 +10,7 @@ pub mod AsWritten
 pub mod Closings
 -- what the code does of any survey, and what holds of those that a book reaches
 pub mod Apply
+pub mod Changed
 pub mod Valid
 -- whole books: totalling, demand 3, and the trees that a book records
 pub mod Playing

@@ -11,6 +11,7 @@ use codec::command::{Command, Species};
 use codec::refusal::Refusal;
 use line::line::Line;
 use line::row::Row;
+use rules::change::any_line;
 use rules::checks::{MOST_LINES, declaring, ending, giving, opening};
 
 // What stands where no line has closed yet.
@@ -76,9 +77,7 @@ impl Survey {
     fn opened(&self, stratum: u8, id: u8) -> bool
         ensures { result ≡ opened stratum id self.now }
     {
-        self.closed_rows()
-            .iter()
-            .any(|row| row.stratum == stratum && row.species == id)
+        any_line(self.closed_rows(), stratum, id)
     }
 
     // What a species is declared with, where it is. No id above 15 has a place in the table.
