@@ -19,6 +19,9 @@
 --     Limit: limit_told, close_never          11 is told only at the limit, of any survey; closing tells it of no valid one
 --     Named: ended_refuses                    a book that has ended takes no command
 --     Named: is_taken, is_refused, is_kept    what is left, with the refusal if there is one, tells what was reported: a refused change leaves all as it was
+--     Change: decides                         what is decided of a command, on what it sees of any survey, is what applying it makes of the survey, and has its place there
+--     Change: seen_enough, not_ended_seen     what it sees is enough, and where the book has not ended that need not be looked up; `sees_itself`: every survey is seen by its own tables
+--     Change: own_applied                     of the rest of a survey, trees of the open line look only at whether the book has ended
 --     Stable: species_stay, factors_stay, rows_stay     what is given once never changes
 --     Playing: plays_refused, plays_on, plays_end, plays_past_end     how playing goes on from a place; `enough_commands`: how many commands are allowed makes no difference
 --     Playing: plays_taken, plays_declined, plays_unread      and from a command that is taken, refused or not read; `plays_applied`, `plays_told`: by what the code answers

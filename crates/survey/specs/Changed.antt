@@ -1,6 +1,6 @@
 -- What a change makes of a survey, and what a command sees of one: applying a command is deciding it on what it sees (rules/specs/Change.antt) and storing the
 -- change in its place (Law.Change: decides). No paper names it.
-use Rattle.std.specs.Prelude.{◌≤◌, ◌<◌, ◌≡◌, Bool, Option}
+use Rattle.std.specs.Prelude.{◌≤◌, ◌<◌, ◌≡◌, Bool, false, Option, None}
 use Rattle.rules.specs.Checks.{most_lines}
 use Rattle.survey.specs.Survey.{species_at, with_species, with_factor, with_line, with_row, with_end, opened}
 use Rattle.codec.specs.declared.command.Species.{Species}
@@ -29,8 +29,24 @@ HasPlace Change.End s = Unit
 abbrev pub seen_of : Option Species → Bool → Survey → Seen
 seen_of there before s = record { there = there; before = before; closed = s.closed; ended = s.ended }
 
--- that is so of the survey: what stands at the species' id, where it has a place, and whether the line was closed before
+-- what stands in its tables for what a command names
+abbrev pub there_of : Named → Survey → Option Species
+there_of Named.Nothing s = None
+there_of (Named.Species id) s = species_at s id
+there_of (Named.Line stratum id) s = species_at s id
+
+-- and whether the line that it names was closed before
+abbrev pub before_of : Named → Survey → Bool
+before_of Named.Nothing s = false
+before_of (Named.Species id) s = false
+before_of (Named.Line stratum id) s = opened stratum id s
+
+-- the same is seen of what a command names: of a species where its id has a place, of a line besides whether it was closed
+abbrev pub SameSeen : Named → Option Species → Option Species → Bool → Bool → Type 0
+SameSeen Named.Nothing x y a b = Unit
+SameSeen (Named.Species id) x y a b = id ≤ 15 → x ≡ y
+SameSeen (Named.Line stratum id) x y a b = (id ≤ 15 → x ≡ y) × (a ≡ b)
+
+-- what is seen is so of the survey
 abbrev pub Sees : Named → Option Species → Bool → Survey → Type 0
-Sees Named.Nothing there before s = Unit
-Sees (Named.Species id) there before s = id ≤ 15 → there ≡ species_at s id
-Sees (Named.Line stratum id) there before s = (id ≤ 15 → there ≡ species_at s id) × (before ≡ opened stratum id s)
+Sees name there before s = SameSeen name (there_of name s) there (before_of name s) before

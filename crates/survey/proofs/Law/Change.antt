@@ -1,19 +1,18 @@
 -- Applying a command is deciding it and storing the change, whatever the survey: the checks are the same, and where they are passed the change makes of the
 -- survey what the command makes of it. What is seen of the tables is enough for that, and the change has its place in them.
-use Rattle.std.specs.Prelude.{ℕ, ◌≤◌, ◌<◌, ◌≡◌, refl, Bool, true, false, cond, List, Option, None, Some, is_some}
+use Rattle.std.specs.Prelude.{ℕ, ◌≤◌, ◌≡◌, refl, Bool, true, false, cond, List, Option, None, Some, is_some}
 use Rattle.std.proofs.Common.{◌∙◌, sym, ap, subst, leb-false}
 use Rattle.biomass.specs.Whole.{inside}
-use Rattle.biomass.specs.Report.{Report, gives, given, ◌then◌, when}
+use Rattle.biomass.specs.Report.{Report, gives, ◌then◌, when}
 use Rattle.biomass.proofs.Law.Report.{inside_true}
 use Rattle.biomass.proofs.Law.SameChecks.{when_then, unless_then, then_then}
-use Rattle.line.specs.Line.{new_line, add_small}
-use Rattle.line.specs.AnyLine.{add_trees, add_height}
+use Rattle.line.specs.Line.{new_line}
 use Rattle.rules.specs.Checks.{species_in_range, declaring, opening}
-use Rattle.rules.specs.Change.{named, declared_at, opens, updates, change_of, decided, own_of}
+use Rattle.rules.specs.Change.{named, declared_at, opens, change_of, decided, own_of}
 use Rattle.rules.proofs.Law.Passed.{Gives, passed, when_such}
-use Rattle.survey.specs.Survey.{species_at, with_line, declare, give_factor, opened, open_line, give_small, end}
+use Rattle.survey.specs.Survey.{declare, give_factor, open_line, give_small, end}
 use Rattle.survey.specs.Apply.{on_line, apply_measured, apply_height, apply_close, apply}
-use Rattle.survey.specs.Changed.{changed, HasPlace, seen_of, Sees}
+use Rattle.survey.specs.Changed.{changed, HasPlace, seen_of, there_of, before_of, SameSeen, Sees}
 use Rattle.survey.proofs.Law.Checks.{given_then, species_in_range_lem, none_is_some, some_is}
 use Rattle.codec.specs.declared.command.Species.{Species}
 use Rattle.codec.specs.declared.command.Command.{Command}
@@ -26,22 +25,6 @@ use Rattle.survey.specs.declared.survey.Survey.{Survey}
 
 -- what is made of the figure of a chain of checks is made behind its last check
 ruleset thens = (when_then, unless_then, then_then, given_then)
-
--- what stands in a survey's tables for what a command names
-abbrev there_of : Named → Survey → Option Species
-there_of Named.Nothing s = None
-there_of (Named.Species id) s = species_at s id
-there_of (Named.Line stratum id) s = species_at s id
-
-abbrev before_of : Named → Survey → Bool
-before_of Named.Nothing s = false
-before_of (Named.Species id) s = false
-before_of (Named.Line stratum id) s = opened stratum id s
-
-sees_itself : (name : Named) (s : Survey) → Sees name (there_of name s) (before_of name s) s
-sees_itself Named.Nothing s = tt
-sees_itself (Named.Species id) s = λ up_to. refl
-sees_itself (Named.Line stratum id) s = (λ up_to. refl, refl)
 
 module _ (s : Survey) where
   abbrev make : Change → Report Survey
@@ -73,22 +56,27 @@ declared_seen id x y same = by_place (inside 0 id 15) refl
     by_place true e = same (inside_true 0 id 15 e).most
     by_place false e = refl
 
--- so a command changes the same, whatever is seen at an id that has no place, or of a species or a line that the command does not name
-pub seen_enough : (c : Command) (s : Survey) (x y : Option Species) (a b : Bool) (line : Option Line) (factors : List (Option ℕ))
-    → Sees (named c) x a s → Sees (named c) y b s → change_of c (seen_of x a s) line factors ≡ change_of c (seen_of y b s) line factors
-seen_enough (Command.Species id species) s x y a b line factors of_x of_y =
-    ap (λ (there : Option Species). declaring id species (is_some there) (gives (Change.Species id species)))
-    (declared_seen id x y (λ up_to. of_x up_to ∙ sym (of_y up_to)))
-seen_enough (Command.Factor cm factor) s x y a b line factors of_x of_y = refl
-seen_enough (Command.Open stratum id p q) s x y a b line factors of_x of_y =
-    ap (λ (first : Bool). opens stratum id p q (seen_of x first s) line) (of_x.1 ∙ sym of_y.1)
+-- so a command changes the same, whatever is seen at an id that has no place, or of a species or a line that it does not name
+pub seen_enough : (c : Command) (s : Survey) (x y : Option Species) (a b : Bool) (line : Option Line) (factors : List (Option ℕ)) → SameSeen (named c) x y a b
+    → change_of c (seen_of x a s) line factors ≡ change_of c (seen_of y b s) line factors
+seen_enough (Command.Species id species) s x y a b line factors same =
+    ap (λ (there : Option Species). declaring id species (is_some there) (gives (Change.Species id species))) (declared_seen id x y same)
+seen_enough (Command.Factor cm factor) s x y a b line factors same = refl
+seen_enough (Command.Open stratum id p q) s x y a b line factors same =
+    ap (λ (before : Bool). opens stratum id p q (seen_of x before s) line) same.1
     ∙ ap (λ (there : Option Species). opening p q (is_some line) there b s.closed then λ z. gives (Change.Line (new_line stratum id z p q)))
-    (declared_seen id x y (λ up_to. of_x.0 up_to ∙ sym (of_y.0 up_to)))
-seen_enough (Command.Measured class count) s x y a b line factors of_x of_y = refl
-seen_enough (Command.Height cm tenths) s x y a b line factors of_x of_y = refl
-seen_enough Command.Close s x y a b line factors of_x of_y = refl
-seen_enough Command.End s x y a b line factors of_x of_y = refl
-seen_enough (Command.Small carbon count) s x y a b line factors of_x of_y = refl
+    (declared_seen id x y same.0)
+seen_enough (Command.Measured class count) s x y a b line factors same = refl
+seen_enough (Command.Height cm tenths) s x y a b line factors same = refl
+seen_enough Command.Close s x y a b line factors same = refl
+seen_enough Command.End s x y a b line factors same = refl
+seen_enough (Command.Small carbon count) s x y a b line factors same = refl
+
+-- and every survey is seen by its own tables
+pub sees_itself : (name : Named) (s : Survey) → Sees name (there_of name s) (before_of name s) s
+sees_itself Named.Nothing s = tt
+sees_itself (Named.Species id) s = λ has_place. refl
+sees_itself (Named.Line stratum id) s = (λ has_place. refl, refl)
 
 -- ---- a change has its place
 
@@ -123,12 +111,11 @@ made : (c : Command) (s : Survey) (there : Option Species) (before : Bool) → S
     → ChangeMade c s (decided c (seen_of there before s) s.line s.factors)
 made c s there before sees =
     let such : Change → Type 0 = λ k. HasPlace k s in
-    let itself = sees_itself (named c) s in
     record {
       place = when_such such s.ended 5 _ (λ not_ended. has_place c s there before s.line s.factors);
       is =
           as_stored s c
-          ∙ ap (λ (r : Report Change). when s.ended 5 (r then make s)) (seen_enough c s _ there _ before s.line s.factors itself sees)
+          ∙ ap (λ (r : Report Change). when s.ended 5 (r then make s)) (seen_enough c s _ there _ before s.line s.factors sees)
           ∙ sym (when_then (make s) s.ended 5 _ _ (λ not_ended. refl));
     }
 
