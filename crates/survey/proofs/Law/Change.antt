@@ -31,20 +31,20 @@ module _ (s : Survey) where
   make k = gives (changed k s)
 
   -- what is made of a survey that has not ended, by what stands in its tables
-  abbrev stored : Command → Report Survey
-  stored c = change_of c (seen_of (there_of (named c) s) (before_of (named c) s) s) s.line s.factors then make
+  abbrev after : Command → Report Survey
+  after c = change_of c (seen_of (there_of (named c) s) (before_of (named c) s) s) s.line s.factors then make
 
   -- and so of every command
-  as_stored : (c : Command) → apply c s ≡ when s.ended 5 (stored c)
+  as_after : (c : Command) → apply c s ≡ when s.ended 5 (after c)
   unfolding declare give_factor open_line apply_measured apply_height apply_close end give_small
-  as_stored (Command.Species id species) = ap (when s.ended 5) (sym (search thens depth 12))
-  as_stored (Command.Factor cm factor) = ap (when s.ended 5) (sym (search thens depth 12))
-  as_stored (Command.Open stratum id p q) = ap (when s.ended 5) (sym (search thens depth 12))
-  as_stored (Command.Measured class count) = ap (when s.ended 5) (sym (search thens depth 12))
-  as_stored (Command.Height cm tenths) = ap (when s.ended 5) (sym (search thens depth 12))
-  as_stored Command.Close = ap (when s.ended 5) (sym (search thens depth 12))
-  as_stored Command.End = ap (when s.ended 5) (sym (search thens depth 12))
-  as_stored (Command.Small carbon count) = ap (when s.ended 5) (sym (search thens depth 12))
+  as_after (Command.Species id species) = ap (when s.ended 5) (sym (search thens depth 12))
+  as_after (Command.Factor cm factor) = ap (when s.ended 5) (sym (search thens depth 12))
+  as_after (Command.Open stratum id p q) = ap (when s.ended 5) (sym (search thens depth 12))
+  as_after (Command.Measured class count) = ap (when s.ended 5) (sym (search thens depth 12))
+  as_after (Command.Height cm tenths) = ap (when s.ended 5) (sym (search thens depth 12))
+  as_after Command.Close = ap (when s.ended 5) (sym (search thens depth 12))
+  as_after Command.End = ap (when s.ended 5) (sym (search thens depth 12))
+  as_after (Command.Small carbon count) = ap (when s.ended 5) (sym (search thens depth 12))
 
 -- ---- what is seen is enough
 
@@ -114,7 +114,7 @@ made c s there before sees =
     record {
       place = when_such such s.ended 5 _ (λ not_ended. has_place c s there before s.line s.factors);
       is =
-          as_stored s c
+          as_after s c
           ∙ ap (λ (r : Report Change). when s.ended 5 (r then make s)) (seen_enough c s _ there _ before s.line s.factors sees)
           ∙ sym (when_then (make s) s.ended 5 _ _ (λ not_ended. refl));
     }
