@@ -18,10 +18,10 @@ pub data Played : Type 0 where
   ended : Survey → Played
   stopped : ℕ → ℕ → Played
 
--- what the code answers
-abbrev pub played : Result Survey Stopped → Played
-played (Ok s) = ended s
-played (Err h) = stopped (number h.why) h.at
+-- what the code answers, with the survey that it leaves
+abbrev pub played : Result Unit Stopped → Survey → Played
+played (Ok done) s = ended s
+played (Err h) s = stopped (number h.why) h.at
 
 -- The rules by which a command is applied to a survey: the papers' bare text (AsWritten), by which a book is totalled, or `apply`, which the code does
 -- and by which each book comes to the same (Law.Playing: play_as_written)

@@ -1,5 +1,6 @@
 // Playing a book: its commands are applied to a fresh survey, to the end of the book or to the first refusal.
 ghost use Rattle.std.specs.Prelude.{◌≡◌, ◌≤◌, length, false};
+ghost use Rattle.survey.specs.Survey.{fresh};
 ghost use Rattle.survey.specs.Playing.{played, PlaysOn, Steps, play_from, play};
 
 use super::survey::Survey;
@@ -38,7 +39,7 @@ fn note_trees(book: &[u8], from: usize, line: &mut Line) -> usize
     at
 }
 
-// The same of the survey's open line, where one is open.
+// The same of the survey's open line, where one is open. It is noted on a copy, which the loop keeps in registers.
 fn pass_trees(book: &[u8], from: usize, survey: &mut Survey) -> usize
     requires { (survey.old.ended ≡ false) × (from ≤ length book.now) }
     ensures place { (from ≤ result) × (result ≤ length book.now) }
@@ -46,7 +47,12 @@ fn pass_trees(book: &[u8], from: usize, survey: &mut Survey) -> usize
     ensures plays { play_from book.now result survey.new ≡ play_from book.now from survey.old }
 {
     match &mut survey.line {
-        Some(line) => note_trees(book, from, line),
+        Some(line) => {
+            let mut noted = *line;
+            let at = note_trees(book, from, &mut noted);
+            *line = noted;
+            at
+        }
         None => from,
     }
 }
@@ -60,18 +66,19 @@ fn step(survey: &mut Survey, book: &[u8], at: usize) -> Result<usize, Refusal>
     Ok(next)
 }
 
-// The lines of a book and their commands: the survey at the end of the book, or where the book is stopped.
+// The lines of a book and their commands, played on a fresh survey: it is left as it is at the end of the book, or the book is stopped.
+// It is lent, since one that is answered is copied at each step out, and a survey is the greatest thing that totalling keeps.
 #[tactic(auto, using(crate::proofs::Law::Playing::plays_end, crate::proofs::Law::Playing::plays_past_end), unfolding(crate::specs::Playing::play))]
-pub(crate) fn play(book: &[u8]) -> Result<Survey, Stopped>
-    ensures { played result ≡ play book.now }
+pub(crate) fn play(book: &[u8], survey: &mut Survey) -> Result<(), Stopped>
+    requires { survey.old ≡ fresh }
+    ensures { played result survey.new ≡ play book.now }
 {
-    let mut survey = Survey::new();
     let mut at = 0;
     let stopped = 'lines: loop {
         // The commands of a line; where none is open, one command.
         loop {
-            at = pass_trees(book, at, &mut survey);
-            match step(&mut survey, book, at) {
+            at = pass_trees(book, at, survey);
+            match step(survey, book, at) {
                 Ok(next) => at = next,
                 Err(why) => break 'lines Stopped { why, at },
             }
@@ -81,7 +88,7 @@ pub(crate) fn play(book: &[u8]) -> Result<Survey, Stopped>
         }
         if survey.ended {
             if book.len() <= at {
-                return Ok(survey);
+                return Ok(());
             }
             break Stopped {
                 why: Refusal::Ended,

@@ -8,6 +8,7 @@ ghost use Rattle.survey.specs.Promise.{Promised};
 
 use super::playing::{Stopped, play};
 use super::sheet::{SHEET_LENGTH, store_rows};
+use super::survey::Survey;
 use biomass::project::project;
 use biomass::units::{BiomassRange, CarbonRange, Milligrams};
 use codec::refusal::Refusal;
@@ -63,6 +64,7 @@ pub fn total(book: &[u8], sheet: &mut [u8]) -> Result<Totals, Stopped>
             at: 0,
         });
     }
-    let survey = play(book)?;
+    let mut survey = Survey::new();
+    play(book, &mut survey)?;
     Ok(total_rows(sheet, survey.closed_rows()))
 }

@@ -9,7 +9,7 @@ use Rattle.survey.proofs.playing.play.Goals as goal
 pub lines-init : goal.lines-init
 unfolding fresh play
 lines-init c =
-    let is = c.new-survey.ensures in
+    let is = c.requires in
     record { inside = omega arith; not_ended = rw is; plays = rw is }
 
 -- a refused command, at its place

@@ -51,11 +51,11 @@ module _ (book sheet : List ℕ) where
 pub returns-then-sheet-lt-SHEET_LENGTH-clause-promise : goal.returns-then-sheet-lt-SHEET_LENGTH-clause-promise
 returns-then-sheet-lt-SHEET_LENGTH-clause-promise c = search (rules, no_room)
 
-pub returns-in_err-survey-clause-promise : goal.returns-in_err-survey-clause-promise
-returns-in_err-survey-clause-promise c = refuses _ _ (omega arith) c.in_err-survey.ensures (search rules)
+pub returns-in_err-play-clause-promise : goal.returns-in_err-play-clause-promise
+returns-in_err-play-clause-promise c = refuses _ _ (omega arith) c.in_err-play.ensures (search rules)
 
 pub total_rows-requires : goal.total_rows-requires
-total_rows-requires c = (few_small c.args.book.now c.in_ok-survey.ensures c.closed_rows.ensures, omega arith)
+total_rows-requires c = (few_small c.args.book.now c.in_ok-play.ensures c.closed_rows.ensures, omega arith)
 
 pub returns-clause-promise : goal.returns-clause-promise
-returns-clause-promise c = accepts _ _ (omega arith) c.in_ok-survey.ensures c.closed_rows.ensures c.total_rows.ensures.totals c.total_rows.ensures.stored
+returns-clause-promise c = accepts _ _ (omega arith) c.in_ok-play.ensures c.closed_rows.ensures c.total_rows.ensures.totals c.total_rows.ensures.stored
