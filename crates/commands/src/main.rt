@@ -7,8 +7,9 @@
 // commands follow it, is for totalling to judge: a book that is listed here to its last byte may still be refused there.
 #![tactic(auto)]
 
-ghost use Rattle.std.specs.Prelude.{Some};
-ghost use Rattle.commands.specs.Words.{constants, declared, words};
+ghost use Rattle.std.specs.Prelude.{Some, ◌++◌, codes};
+ghost use Rattle.std.specs.Fmt.{signed_decimal};
+ghost use Rattle.commands.specs.Words.{declared, words};
 
 use biomass::tariff::Constants;
 use codec::command::{Command, Species};
@@ -18,30 +19,42 @@ use std::io::Write;
 use std::{fmt, io};
 use survey::reader::{BookReader, Extent, read_through};
 
-// The constants of a species, each with its sign where it is below 0.
+// A constant, after a space. Its sign goes with the space and not with its digits: a line goes out in the parts in which it always
+// did, since they decide how much is written at a time, and what is out before a write that fails.
 #[derive(Clone, Copy)]
-struct Signed(Constants);
+struct Constant(i32);
 
-impl Display for Signed {
-    ghost output = { λ signed. Some (constants signed.0) };
+impl Display for Constant {
+    ghost output = { λ n. Some (codes " " ++ signed_decimal n.0) };
 
     fn fmt<W: fmt::Write>(&self, f: &mut Formatter<W>) -> fmt::Result {
-        let Constants { c1, c2, c3, c4 } = self.0;
-        write!(f, "constants {c1} {c2} {c3} {c4}")
+        let size = self.0.unsigned_abs();
+        if self.0 < 0 {
+            write!(f, " -{size}")
+        } else {
+            write!(f, " {size}")
+        }
     }
 }
 
-// What a species is declared with, in words.
+// What a species is declared with, in words, after a space, which goes with the first word for the same reason.
 #[derive(Clone, Copy)]
 struct Declared(Species);
 
 impl Display for Declared {
-    ghost output = { λ species. Some (declared species.0) };
+    ghost output = { λ species. Some (codes " " ++ declared species.0) };
 
     fn fmt<W: fmt::Write>(&self, f: &mut Formatter<W>) -> fmt::Result {
         let (crown, root, gravity) = (self.0.crown, self.0.root, self.0.gravity);
-        let constants = Signed(self.0.constants);
-        write!(f, "crown {crown} root {root} gravity {gravity} {constants}")
+        let Constants { c1, c2, c3, c4 } = self.0.constants;
+        write!(
+            f,
+            " crown {crown} root {root} gravity {gravity} constants{}{}{}{}",
+            Constant(c1),
+            Constant(c2),
+            Constant(c3),
+            Constant(c4)
+        )
     }
 }
 
@@ -54,7 +67,7 @@ impl Display for Words {
 
     fn fmt<W: fmt::Write>(&self, f: &mut Formatter<W>) -> fmt::Result {
         match self.0 {
-            Command::Species(id, species) => write!(f, "species {id} {}", Declared(species)),
+            Command::Species(id, species) => write!(f, "species {id}{}", Declared(species)),
             Command::Factor { cm, factor } => write!(f, "factor {cm} cm {factor}"),
             Command::Open {
                 stratum,

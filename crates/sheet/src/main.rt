@@ -15,7 +15,8 @@ use survey::playing::Stopped;
 use survey::sheet::{SHEET_LENGTH, find_row};
 use survey::total::{Totals, total};
 
-// Trees, in hundredths, printed to two places.
+// Trees, in hundredths, printed to two places. Both are digits of their own, and not one number by `{:02}`: a line goes out in the
+// parts in which it always did, since they decide what is out before a write that fails.
 #[derive(Clone, Copy)]
 struct Trees(u64);
 
@@ -25,8 +26,9 @@ impl Display for Trees {
     fn fmt<W: fmt::Write>(&self, f: &mut Formatter<W>) -> fmt::Result {
         let Trees(hundredths) = *self;
         let whole = hundredths / 100;
-        let part = hundredths % 100;
-        write!(f, "{whole}.{part:02}")
+        let tens = hundredths / 10 % 10;
+        let ones = hundredths % 10;
+        write!(f, "{whole}.{tens}{ones}")
     }
 }
 

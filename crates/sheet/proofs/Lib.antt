@@ -1,2 +1,0 @@
--- What the numbers of a sheet look like.
-pub mod Digits
