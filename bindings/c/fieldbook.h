@@ -24,8 +24,8 @@ extern "C" {
 /* The version of this header, the Rust crate and the book's format together; CHANGELOG.md has what raises it. */
 #define FIELDBOOK_VERSION_MAJOR 3
 #define FIELDBOOK_VERSION_MINOR 0
-#define FIELDBOOK_VERSION_PATCH 0
-#define FIELDBOOK_VERSION "3.0.0"
+#define FIELDBOOK_VERSION_PATCH 1
+#define FIELDBOOK_VERSION "3.0.1"
 
 /*
  * How many units of a mean diameter there are to the cm: it is in HUNDREDTHS of a cm, 700 TO 10000.
